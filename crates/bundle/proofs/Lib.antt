@@ -1,0 +1,2 @@
+-- Each way through the bundle's functions, and the promise that the list cites.
+pub mod Ways

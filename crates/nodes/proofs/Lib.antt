@@ -1,0 +1,2 @@
+-- Each way through the node table's functions.
+pub mod Ways

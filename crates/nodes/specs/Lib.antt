@@ -1,0 +1,2 @@
+-- What a node's words say.
+pub mod Nodes

@@ -1,0 +1,2 @@
+-- Each way through the table's functions, and what a store changes.
+pub mod Ways

@@ -1,0 +1,2 @@
+-- A table's words.
+pub mod Table

@@ -1,0 +1,2 @@
+-- Each way through the functions on keys.
+pub mod Ways
