@@ -38,7 +38,12 @@ unlocked ns n = putNode ns n 3 0
 abbrev pub unlockedBoth : List ℕ → ℕ → ℕ → Bool → List ℕ
 unlockedBoth ns pred curr both = cond both (unlocked (unlocked ns pred) curr) (unlocked ns pred)
 
--- ---- a new node: not locked, not removed, with an empty bundle
-unfoldable pub newNode : List ℕ → ℕ → ℕ → ℕ → ℕ → List ℕ
-newNode ns n key value next =
-    putNode (putNode (putNode (putNode (putNode (putNode ns n 0 key) n 1 value) n 2 next) n 3 0) n 4 0) n 5 0
+-- ---- a new node: its key, value and plain next; not locked, not removed, with an empty bundle
+unfoldable pub namedNode : List ℕ → ℕ → ℕ → ℕ → ℕ → List ℕ
+namedNode ns n key value next = putNode (putNode (putNode ns n 0 key) n 1 value) n 2 next
+
+unfoldable pub clearNode : List ℕ → ℕ → List ℕ
+clearNode ns n = putNode (putNode (putNode ns n 3 0) n 4 0) n 5 0
+
+abbrev pub newNode : List ℕ → ℕ → ℕ → ℕ → ℕ → List ℕ
+newNode ns n key value next = clearNode (namedNode ns n key value next) n

@@ -3,7 +3,7 @@
 // Not here: which node is whose, and the table's length (the list's). Every function is total, on any content of the table
 // (crate table). Assumes nothing.
 ghost use mathlib.Core.Path.{_≡_};
-ghost use Rattle.nodes.specs.Nodes.{nodeAt, putNode, unlocked, unlockedBoth, newNode};
+ghost use Rattle.nodes.specs.Nodes.{nodeAt, putNode, unlocked, unlockedBoth, namedNode, clearNode, newNode};
 
 // 6 words a node.
 const WIDTH: u32 = 6;
@@ -48,14 +48,26 @@ pub fn unlock_both(nodes: &mut [u32], pred: u32, curr: u32, both: bool)
     }
 }
 
-// Not locked, not removed, with an empty bundle.
-pub fn new_node(nodes: &mut [u32], n: u32, key: u32, value: u32, next: u32)
-    ensures { λ _. ⌜ now (nodes .exit) ≡ newNode (now (nodes .entry)) n key value next ⌝ }
+fn name_node(nodes: &mut [u32], n: u32, key: u32, value: u32, next: u32)
+    ensures { λ _. ⌜ now (nodes .exit) ≡ namedNode (now (nodes .entry)) n key value next ⌝ }
 {
     put(nodes, n, KEY, key);
     put(nodes, n, VALUE, value);
     put(nodes, n, NEXT, next);
+}
+
+fn clear_node(nodes: &mut [u32], n: u32)
+    ensures { λ _. ⌜ now (nodes .exit) ≡ clearNode (now (nodes .entry)) n ⌝ }
+{
     put(nodes, n, LOCK, 0);
     put(nodes, n, REMOVED, 0);
     put(nodes, n, NEWEST, 0);
+}
+
+// Not locked, not removed, with an empty bundle.
+pub fn new_node(nodes: &mut [u32], n: u32, key: u32, value: u32, next: u32)
+    ensures { λ _. ⌜ now (nodes .exit) ≡ newNode (now (nodes .entry)) n key value next ⌝ }
+{
+    name_node(nodes, n, key, value, next);
+    clear_node(nodes, n);
 }

@@ -1,5 +1,5 @@
 -- `nodes::new_node` meets its contract: each way out is a law of proofs/Ways.antt. Assumes nothing.
-use Rattle.nodes.proofs.Ways.{made}
+use Rattle.nodes.proofs.Ways.{ways}
 use borrow.Author.Needs.{needs}
 use Rattle.nodes.proofs.new_node.Statement.{statement}
 use Rattle.nodes.proofs.new_node.Tie as tie
@@ -10,9 +10,5 @@ new-node-spec =
     (tie.spec
     (λ c κs. search needs)
     (λ c κs. search needs)
-    (λ c κs. search needs)
-    (λ c κs. search needs)
-    (λ c κs. search needs)
-    (λ c κs. search needs)
     (λ c. search needs)
-    (λ c. search made))
+    (λ c. search ways))

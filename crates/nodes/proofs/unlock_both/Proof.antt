@@ -1,5 +1,5 @@
 -- `nodes::unlock_both` meets its contract: each way out is a law of proofs/Ways.antt. Assumes nothing.
-use Rattle.nodes.proofs.Ways.{unlocking}
+use Rattle.nodes.proofs.Ways.{ways}
 use borrow.Author.Needs.{needs}
 use Rattle.nodes.proofs.unlock_both.Statement.{statement}
 use Rattle.nodes.proofs.unlock_both.Tie as tie
@@ -11,6 +11,6 @@ unlock-both-spec =
     (λ c κs. search needs)
     (λ c κs. search needs)
     (λ c. search needs)
-    (λ c. search unlocking)
+    (λ c. search ways)
     (λ c. search needs)
-    (λ c. search unlocking))
+    (λ c. search ways))
