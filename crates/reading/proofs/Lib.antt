@@ -1,0 +1,2 @@
+-- Each way through the steps that write nothing.
+pub mod Ways

@@ -1,0 +1,20 @@
+-- `reading::walk` meets its contract: each way out is a law of proofs/Ways.antt. Assumes nothing.
+use Rattle.reading.proofs.Ways.{walked}
+use borrow.Author.Needs.{needs}
+use Rattle.reading.proofs.walk.Statement.{statement}
+use Rattle.reading.proofs.walk.Tie as tie
+
+pub walk-spec : {M : Type 1} → statement M
+walk-spec =
+    tie.close
+    (tie.spec
+    (λ c κs. search needs)
+    (λ c. search walked)
+    (λ c κs. search needs)
+    (λ c κs. search needs)
+    (λ c κs. search needs)
+    (λ c κs. search needs)
+    (λ c. search walked)
+    (λ c κs. search needs)
+    (λ c κs. search needs)
+    (λ c. search walked))

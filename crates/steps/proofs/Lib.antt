@@ -1,0 +1,2 @@
+-- Each way through the functions that build a record.
+pub mod Ways
