@@ -105,29 +105,38 @@ lockStep z ns c who op node here then =
     (moved ns (damaged c op here))
 
 -- ---- Check. Walk again: unlock, and from the head as it now stands
-abbrev pub againOf : List ℕ → Op → Phase
-againOf ns op = Phase.Walk 0 (nextAt ns 0)
+abbrev pub againOf : List ℕ → Phase
+againOf ns = Phase.Walk 0 (nextAt ns 0)
+
+-- an insert's curr, where pred leads to it: if it has the key, unlock and answer present
+unfoldable pub insertMeets : Size → List ℕ → Counters → Op → ℕ → ℕ → Moved
+insertMeets z ns c op pred curr =
+    cond (ltb curr (z .nodes))
+    (cond (eqb (keyAt ns curr) (soughtOf op))
+    (moved (unlocked ns pred) (ends c Answer.Present))
+    (moved ns (works c op (Phase.Prepare pred curr))))
+    (moved ns (damaged c op (Phase.Check pred curr)))
 
 unfoldable pub insertCheck : Size → List ℕ → Counters → Op → ℕ → ℕ → Moved
 insertCheck z ns c op pred curr =
     cond (ltb pred (z .nodes))
     (cond (eqb (removedAt ns pred) 0 && eqb (nextAt ns pred) curr)
-    (cond (ltb curr (z .nodes))
-    (cond (eqb (keyAt ns curr) (soughtOf op))
-    (moved (unlocked ns pred) (ends c Answer.Present))
-    (moved ns (works c op (Phase.Prepare pred curr))))
-    (moved ns (damaged c op (Phase.Check pred curr))))
-    (moved (unlocked ns pred) (works c op (againOf ns op))))
+    (insertMeets z ns c op pred curr)
+    (moved (unlocked ns pred) (works c op (againOf ns))))
     (moved ns (damaged c op (Phase.Check pred curr)))
+
+-- a remove's two nodes: neither removed, and pred's next is curr
+unfoldable pub linkedOf : List ℕ → ℕ → ℕ → Bool
+linkedOf ns pred curr = eqb (removedAt ns pred) 0 && (eqb (removedAt ns curr) 0 && eqb (nextAt ns pred) curr)
 
 unfoldable pub removeCheck : Size → List ℕ → Counters → Op → ℕ → ℕ → Moved
 removeCheck z ns c op pred curr =
     cond (ltb pred (z .nodes) && ltb curr (z .nodes))
-    (cond (eqb (removedAt ns pred) 0 && eqb (removedAt ns curr) 0 && eqb (nextAt ns pred) curr)
+    (cond (linkedOf ns pred curr)
     (cond (eqb (keyAt ns curr) (soughtOf op))
     (moved ns (works c op (Phase.Prepare pred curr)))
     (moved (unlockedBoth ns pred curr true) (ends c Answer.Absent)))
-    (moved (unlockedBoth ns pred curr true) (works c op (againOf ns op))))
+    (moved (unlockedBoth ns pred curr true) (works c op (againOf ns))))
     (moved ns (damaged c op (Phase.Check pred curr)))
 
 unfoldable pub checkStep : Size → List ℕ → Counters → Op → ℕ → ℕ → Moved
@@ -238,8 +247,8 @@ finishedOf op number = cond (removesOf op) (Answer.Removed number) (Answer.Inser
 
 unfoldable pub usable : Size → Op → ℕ → ℕ → ℕ → ℕ → Bool
 usable z op pred node lower upper =
-    ltb lower (z .entries) && ltb upper (z .entries) && ltb pred (z .nodes)
-    && cond (removesOf op) (ltb node (z .nodes)) true
+    ltb lower (z .entries)
+    && (ltb upper (z .entries) && (ltb pred (z .nodes) && cond (removesOf op) (ltb node (z .nodes)) true))
 
 unfoldable pub finishStep : Size → List ℕ → List ℕ → Counters → Op → ℕ → ℕ → ℕ → ℕ → ℕ → Done
 finishStep z ns es c op pred node lower upper number =

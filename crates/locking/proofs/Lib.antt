@@ -1,0 +1,2 @@
+-- Each way through Lock and Check.
+pub mod Ways
