@@ -165,7 +165,7 @@ removeLaid ns es c pred curr =
     layIn curr (c .entries + 1) 0 (c .stamp) (layIn pred (c .entries) (nextAt ns curr) (c .stamp) (tables ns es))
 
 abbrev pub counted : Counters → ℕ → Counters
-counted c new = record { nodes = c .nodes + new; entries = c .entries + 2; stamp = c .stamp }
+counted c used = record { nodes = used; entries = c .entries + 2; stamp = c .stamp }
 
 -- with no node left: unlock, and full
 unfoldable pub insertRoom : Size → List ℕ → List ℕ → Counters → Op → ℕ → ℕ → Done
@@ -177,35 +177,39 @@ insertRoom z ns es c op pred curr =
     (cond (ltb (z .entries) (c .entries + 2))
     (done ns es (damaged c op (Phase.Prepare pred curr)))
     (leaves (insertLaid ns es c op pred curr)
-    (works (counted c 1) op (Phase.Number pred (c .nodes) (c .entries) (c .entries + 1))))))
+    (works (counted c (c .nodes + 1)) op (Phase.Number pred (c .nodes) (c .entries) (c .entries + 1))))))
 
 unfoldable pub removeRoom : Size → List ℕ → List ℕ → Counters → Op → ℕ → ℕ → Done
 removeRoom z ns es c op pred curr =
     cond (ltb (z .nodes) (c .nodes) || ltb (z .entries) (c .entries + 2))
     (done ns es (damaged c op (Phase.Prepare pred curr)))
     (leaves (removeLaid ns es c pred curr)
-    (works (counted c 0) op (Phase.Number pred curr (c .entries) (c .entries + 1))))
+    (works (counted c (c .nodes)) op (Phase.Number pred curr (c .entries) (c .entries + 1))))
 
--- what comes where the newest of a node's bundle is not pending
-abbrev pub onFree : List ℕ → List ℕ → Counters → Op → Phase → Held → Done → Done
-onFree ns es c op here Held.Free next = next
-onFree ns es c op here Held.Wait next = done ns es (waits c op here)
-onFree ns es c op here Held.Damaged next = done ns es (damaged c op here)
+-- is the newest entry of a node's bundle pending; of pred's, and then of curr's
+unfoldable pub heldAt : Size → List ℕ → List ℕ → ℕ → Held
+heldAt z ns es node = cond (ltb node (z .nodes)) (heldOf (z .entries) es (newestAt ns node)) Held.Damaged
 
-unfoldable pub ifFree : Size → List ℕ → List ℕ → Counters → Op → Phase → ℕ → Done → Done
-ifFree z ns es c op here node next =
-    cond (ltb node (z .nodes))
-    (onFree ns es c op here (heldOf (z .entries) es (newestAt ns node)) next)
-    (done ns es (damaged c op here))
+abbrev pub orElse : Held → Held → Held
+orElse Held.Free next = next
+orElse Held.Wait next = Held.Wait
+orElse Held.Damaged next = Held.Damaged
+
+abbrev pub heldEither : Size → List ℕ → List ℕ → ℕ → ℕ → Held
+heldEither z ns es pred curr = orElse (heldAt z ns es pred) (heldAt z ns es curr)
+
+abbrev pub onHeld : List ℕ → List ℕ → Counters → Op → Phase → Held → Done → Done
+onHeld ns es c op here Held.Free next = next
+onHeld ns es c op here Held.Wait next = done ns es (waits c op here)
+onHeld ns es c op here Held.Damaged next = done ns es (damaged c op here)
 
 abbrev pub insertPrepare : Size → List ℕ → List ℕ → Counters → Op → ℕ → ℕ → Done
 insertPrepare z ns es c op pred curr =
-    ifFree z ns es c op (Phase.Prepare pred curr) pred (insertRoom z ns es c op pred curr)
+    onHeld ns es c op (Phase.Prepare pred curr) (heldAt z ns es pred) (insertRoom z ns es c op pred curr)
 
 abbrev pub removePrepare : Size → List ℕ → List ℕ → Counters → Op → ℕ → ℕ → Done
 removePrepare z ns es c op pred curr =
-    ifFree z ns es c op (Phase.Prepare pred curr) pred
-    (ifFree z ns es c op (Phase.Prepare pred curr) curr (removeRoom z ns es c op pred curr))
+    onHeld ns es c op (Phase.Prepare pred curr) (heldEither z ns es pred curr) (removeRoom z ns es c op pred curr)
 
 unfoldable pub prepareStep : Size → List ℕ → List ℕ → Counters → Op → ℕ → ℕ → Done
 prepareStep z ns es c op pred curr =

@@ -1,0 +1,5 @@
+-- The definitions of the crate, a page each. In order: the set; the rows of dated links; the history that ties them.
+-- Not here: laws and proofs (proofs/). Assumes nothing.
+pub mod Set
+pub mod Rows
+pub mod History
