@@ -4,8 +4,18 @@
 ghost use mathlib.Core.Path.{_≡_};
 ghost use Prim.Native.Nat.{_+_, _<_, _≤_};
 ghost use Rattle.steps.specs.Steps.{
-    done, tables, layIn, insertLaid, removeLaid, insertRoom, removeRoom, heldAt, heldEither, insertPrepare, removePrepare,
-    prepareStep
+  done,
+  tables,
+  layIn,
+  insertLaid,
+  removeLaid,
+  insertRoom,
+  removeRoom,
+  heldAt,
+  heldEither,
+  insertPrepare,
+  removePrepare,
+  prepareStep,
 };
 use bundle::Held;
 use nodes::NEWEST;
@@ -44,10 +54,8 @@ fn held_either(z: Size, nodes: &[u32], entries: &[u32], pred: u32, curr: u32) ->
 // Entry e, pending, to the target, in front of the node's bundle.
 fn lay_in(nodes: &mut [u32], entries: &mut [u32], node: u32, e: u32, target: u32, stamp: u32)
     requires { ⌜ e < 4294967295 ⌝ }
-    ensures {
-        λ _. ⌜ tables (now (nodes .exit)) (now (entries .exit))
-            ≡ layIn node e target stamp (tables (now (nodes .entry)) (now (entries .entry))) ⌝
-    }
+    ensures { λ _. ⌜ tables (now (nodes .exit)) (now (entries .exit))
+        ≡ layIn node e target stamp (tables (now (nodes .entry)) (now (entries .entry))) ⌝ }
 {
     let older = nodes::node(nodes, node, NEWEST);
     bundle::lay(entries, e, target, stamp, older);
@@ -57,10 +65,8 @@ fn lay_in(nodes: &mut [u32], entries: &mut [u32], node: u32, e: u32, target: u32
 // The new node between pred and curr, then the entry in pred to it, then its own to curr.
 fn lay_insert(nodes: &mut [u32], entries: &mut [u32], c: Counters, op: Op, pred: u32, curr: u32)
     requires { ⌜ c .entries + 2 ≤ 4294967295 ⌝ }
-    ensures {
-        λ _. ⌜ tables (now (nodes .exit)) (now (entries .exit))
-            ≡ insertLaid (now (nodes .entry)) (now (entries .entry)) c op pred curr ⌝
-    }
+    ensures { λ _. ⌜ tables (now (nodes .exit)) (now (entries .exit))
+        ≡ insertLaid (now (nodes .entry)) (now (entries .entry)) c op pred curr ⌝ }
 {
     let n = c.nodes;
     let e = c.entries;
@@ -75,10 +81,8 @@ fn lay_insert(nodes: &mut [u32], entries: &mut [u32], c: Counters, op: Op, pred:
 // The entry in pred to curr's next, then curr's to the head.
 fn lay_remove(nodes: &mut [u32], entries: &mut [u32], c: Counters, pred: u32, curr: u32)
     requires { ⌜ c .entries + 2 ≤ 4294967295 ⌝ }
-    ensures {
-        λ _. ⌜ tables (now (nodes .exit)) (now (entries .exit))
-            ≡ removeLaid (now (nodes .entry)) (now (entries .entry)) c pred curr ⌝
-    }
+    ensures { λ _. ⌜ tables (now (nodes .exit)) (now (entries .exit))
+        ≡ removeLaid (now (nodes .entry)) (now (entries .entry)) c pred curr ⌝ }
 {
     let e = c.entries;
     let stamp = c.stamp;
@@ -96,10 +100,8 @@ fn room_insert(
     pred: u32,
     curr: u32,
 ) -> Stepped
-    ensures {
-        λ r. ⌜ done (now (nodes .exit)) (now (entries .exit)) r
-            ≡ insertRoom z (now (nodes .entry)) (now (entries .entry)) c op pred curr ⌝
-    }
+    ensures { λ r. ⌜ done (now (nodes .exit)) (now (entries .exit)) r
+        ≡ insertRoom z (now (nodes .entry)) (now (entries .entry)) c op pred curr ⌝ }
 {
     let n = c.nodes;
     let e = c.entries;
@@ -139,10 +141,8 @@ fn room_remove(
     pred: u32,
     curr: u32,
 ) -> Stepped
-    ensures {
-        λ r. ⌜ done (now (nodes .exit)) (now (entries .exit)) r
-            ≡ removeRoom z (now (nodes .entry)) (now (entries .entry)) c op pred curr ⌝
-    }
+    ensures { λ r. ⌜ done (now (nodes .exit)) (now (entries .exit)) r
+        ≡ removeRoom z (now (nodes .entry)) (now (entries .entry)) c op pred curr ⌝ }
 {
     let n = c.nodes;
     let e = c.entries;
@@ -179,10 +179,8 @@ fn prepare_insert(
     pred: u32,
     curr: u32,
 ) -> Stepped
-    ensures {
-        λ r. ⌜ done (now (nodes .exit)) (now (entries .exit)) r
-            ≡ insertPrepare z (now (nodes .entry)) (now (entries .entry)) c op pred curr ⌝
-    }
+    ensures { λ r. ⌜ done (now (nodes .exit)) (now (entries .exit)) r
+        ≡ insertPrepare z (now (nodes .entry)) (now (entries .entry)) c op pred curr ⌝ }
 {
     let here = Phase::Prepare { pred, curr };
     match held_at(z, nodes, entries, pred) {
@@ -201,10 +199,8 @@ fn prepare_remove(
     pred: u32,
     curr: u32,
 ) -> Stepped
-    ensures {
-        λ r. ⌜ done (now (nodes .exit)) (now (entries .exit)) r
-            ≡ removePrepare z (now (nodes .entry)) (now (entries .entry)) c op pred curr ⌝
-    }
+    ensures { λ r. ⌜ done (now (nodes .exit)) (now (entries .exit)) r
+        ≡ removePrepare z (now (nodes .entry)) (now (entries .entry)) c op pred curr ⌝ }
 {
     let here = Phase::Prepare { pred, curr };
     match held_either(z, nodes, entries, pred, curr) {
@@ -223,10 +219,8 @@ pub fn prepare(
     pred: u32,
     curr: u32,
 ) -> Stepped
-    ensures {
-        λ r. ⌜ done (now (nodes .exit)) (now (entries .exit)) r
-            ≡ prepareStep z (now (nodes .entry)) (now (entries .entry)) c op pred curr ⌝
-    }
+    ensures { λ r. ⌜ done (now (nodes .exit)) (now (entries .exit)) r
+        ≡ prepareStep z (now (nodes .entry)) (now (entries .entry)) c op pred curr ⌝ }
 {
     if terms::removes(op) {
         return prepare_remove(z, nodes, entries, c, op, pred, curr);

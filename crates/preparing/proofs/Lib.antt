@@ -1,0 +1,2 @@
+-- Each way through Prepare.
+pub mod Ways
