@@ -1,0 +1,2 @@
+-- Each way through Number, Link and Finish.
+pub mod Ways
