@@ -1,0 +1,2 @@
+-- Each phase's arm of the step.
+pub mod Ways
