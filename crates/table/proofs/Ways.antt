@@ -1,14 +1,15 @@
 -- Each way out of the table's functions, over plain numbers. Assumes nothing.
 use Prim.Native.Nat.{ℕ, _+_, _*_, _≤_, _<_}
-use mathlib.Core.Path.{_≡_, refl, sym}
-use mathlib.Core.List.{List}
-use lib.ListN.{length, getD, set, List·getD-eq-default}
-use lib.Seq.{set-out}
+use mathlib.Core.Path.{_≡_, refl, sym, _∙_}
+use mathlib.Core.List.{List, [], _++_, append-nil}
+use lib.ListN.{length, getD, set, drop, replicate, List·getD-eq-default, length-set}
+use lib.Seq.{set-out, drop-length}
+use borrow.Author.Fill.{fill-more}
 use native.Mathlib.Omega.{arith}
 use native.Mathlib.Nat.{mul-le-mul}
 use mir.Syntax.{w32, w64}
 use mir.Val.{Fits}
-use Rattle.table.specs.Table.{wordOf, storeOf}
+use Rattle.table.specs.Table.{wordOf, storeOf, clearOf}
 
 pub word-in : (w : ℕ) (t : List ℕ) (i k : ℕ) → getD t (i * w + k) 0 ≡ wordOf w t i k
 unfolding wordOf
@@ -37,3 +38,18 @@ pub place-fits : (i w k : ℕ) → Fits w32 i → Fits w32 w → Fits w32 k → 
 place-fits i w k hi hw hk = record { fits = omega (arith, product-below i w (omega arith) (omega arith)) }
 
 pub ruleset words = (word-in, word-past, store-in, store-past, product-fits, place-fits, arith)
+
+-- ---- clearing: after i turns the first i words are 0 and the rest is as it was
+module _ (d t : List ℕ) (i : ℕ) (size : length t ≡ length d) (so-far : t ≡ replicate i 0 ++ drop i d) where
+  pub clear-on : i < length t → set t i 0 ≡ replicate (i + 1) 0 ++ drop (i + 1) d
+  clear-on more = rw so-far (fill-more i 0 d (omega arith))
+
+  pub clear-size : length (set t i 0) ≡ length d
+  clear-size = length-set t i 0 ∙ size
+
+  pub clear-ends : i ≤ length d → length t ≤ i → t ≡ clearOf d
+  clear-ends in-table all =
+      let e : i ≡ length d = omega arith in
+      so-far ∙ rw (e, drop-length) (append-nil (replicate (length d) 0))
+
+pub ruleset cleared = (clear-on, clear-size, clear-ends)

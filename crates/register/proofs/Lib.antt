@@ -1,0 +1,2 @@
+-- Each way through the public calls.
+pub mod Ways
