@@ -1,0 +1,2 @@
+-- Each way through the calls over sixteen records.
+pub mod Ways
