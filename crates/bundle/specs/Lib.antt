@@ -1,2 +1,3 @@
--- What an entry's words say, and what reading, laying and finishing are (document 01, B1 to B4).
+-- What an entry's words say, what reading, laying and finishing are (document 01, B1 to B4), and rows as lists.
 pub mod Bundle
+pub mod Shows
