@@ -1,6 +1,6 @@
 -- The bundle's promise: what the list may cite, and nothing else of the bundle.
--- In order: the words after laying and finishing; frames (a row that does not own an entry stays as it is); laying; finishing;
--- reading. That rows are apart is asked for (`¬ List·Memᴰ e own`), never assumed. Assumes nothing.
+-- In order: the words after laying and finishing; frames (a row that does not own an entry stays as it is); laying;
+-- finishing; reading. That rows are apart is asked for (`¬ List·Memᴰ e own`), never assumed. Assumes nothing.
 use Prim.Native.Nat.{ℕ, zero, suc, _+_, _-_, _*_, _≤_, _<_}
 use mathlib.Core.Path.{_≡_, refl, sym, _∙_, subst}
 use mathlib.Core.Logic.{_⊎_, inl, inr, ⊎-elim, _≢_}
@@ -14,7 +14,8 @@ use lib.Dec.{ltb}
 use borrow.Author.Tests.{lt-ltb, le-ltb, le-leb, lt-leb}
 use Rattle.table.proofs.Laws.{word-stored, word-else, store-length}
 use Rattle.order.specs.Rows.{Row, look, newest, Bundle, final, pending, Seen, wait, found, readAt, readNewest}
-use Rattle.bundle.specs.Bundle.{wordAt, putAt, lookOf, goOn, scanOf, holdsUp, atOf, newestOf, heldOf, layOf, finishOf}
+use Rattle.bundle.specs.Bundle.{wordAt, putAt, lookOf, goOn, scanOf, holdsUp, atOf, newestOf, heldOf, layOf}
+use Rattle.bundle.specs.Bundle.{finishOf}
 use Rattle.bundle.specs.Shows.{Entry, RowAt, Shows, asRead, asHeld}
 use Rattle.bundle.specs.declared.Read.{Read}
 use Rattle.bundle.specs.declared.Held.{Held}
@@ -72,8 +73,12 @@ module _ (es : List ℕ) (e : ℕ) where
       pub lay-older : wordAt (layOf es e t c o) e 3 ≡ o
       unfolding layOf
       lay-older =
-          word-stored 4 _ e 3 o (omega (arith, store-length 4 es e 0 t, store-length 4 (putAt es e 0 t) e 1 c,
-          store-length 4 (putAt (putAt es e 0 t) e 1 c) e 2 1))
+          word-stored 4 _ e 3 o (omega (
+            arith,
+            store-length 4 es e 0 t,
+            store-length 4 (putAt es e 0 t) e 1 c,
+            store-length 4 (putAt (putAt es e 0 t) e 1 c) e 2 1,
+          ))
 
     module _ (n : ℕ) where
       pub finish-target : wordAt (finishOf es e n) e 0 ≡ wordAt es e 0
@@ -85,7 +90,8 @@ module _ (es : List ℕ) (e : ℕ) where
       pub finish-stamp : wordAt (finishOf es e n) e 1 ≡ n
       unfolding finishOf
       finish-stamp =
-          word-else 4 _ e 2 0 e 1 (omega arith) (omega arith) (inr (omega arith)) ∙ word-stored 4 es e 1 n (omega arith)
+          word-else 4 _ e 2 0 e 1 (omega arith) (omega arith) (inr (omega arith)) ∙ word-stored 4 es e 1 n (omega
+          arith)
 
       pub finish-final : wordAt (finishOf es e n) e 2 ≡ 0
       unfolding finishOf
@@ -209,7 +215,8 @@ module _ (size : ℕ) (es : List ℕ) (link e t st m : ℕ) (r : Entry size es l
 
   entry-above : (s : ℕ) → m ≡ 0 → s < st → lookOf size es link s ≡ Look.Passed (wordAt es e 3)
   entry-above s is-final high =
-      sym (look-above size es link s some-link in-table m mark-word st (wordAt es e 3) is-final stamp-word high older-word)
+      sym (look-above size es link s some-link in-table m mark-word st (wordAt es e 3) is-final stamp-word high
+      older-word)
 
   entry-pending : (s : ℕ) → (m ≡ 0 → ⊥) → lookOf size es link s ≡ Look.Passed (wordAt es e 3)
   entry-pending s pends =
@@ -286,7 +293,8 @@ module _ (size : ℕ) (es : List ℕ) where
       (target-word size es link e (p .1) (p .0) 0 (r .0)))
   read-newest-is (pending c t row) [] link r = absurd r
   read-newest-is (pending c t row) (e ∷ own) link r =
-      sym (newest-pending size es link 0 (some-link size es link e t c 1 (r .0)) (in-table size es link e t c 1 (r .0)) 1
+      sym (newest-pending size es link 0 (some-link size es link e t c 1 (r .0)) (in-table size es link e t c 1 (r
+      .0)) 1
       (mark-word size es link e t c 1 (r .0)) (λ z. omega arith))
 
   pub held-is : (b : Bundle) (own : List ℕ) (link : ℕ) → Shows size es b own link → heldOf size es link ≡ asHeld b
@@ -298,5 +306,6 @@ module _ (size : ℕ) (es : List ℕ) where
       (in-table size es link e (p .1) (p .0) 0 (r .0)) 0 (mark-word size es link e (p .1) (p .0) 0 (r .0)) refl)
   held-is (pending c t row) [] link r = absurd r
   held-is (pending c t row) (e ∷ own) link r =
-      sym (held-pending size es link 0 (some-link size es link e t c 1 (r .0)) (in-table size es link e t c 1 (r .0)) 1
+      sym (held-pending size es link 0 (some-link size es link e t c 1 (r .0)) (in-table size es link e t c 1 (r .0))
+      1
       (mark-word size es link e t c 1 (r .0)) (λ z. omega arith))

@@ -1,6 +1,7 @@
--- Each way out of the bundle's functions, over plain numbers: what the code read and tested, and what the definition then is.
--- In order: one entry of a scan; the wait; rule B3's loop; rule B4; is the newest pending; laying; finishing.
--- Assumes nothing.
+-- Each way out of the bundle's functions, over plain numbers: what the code read and tested, and what the definition
+-- then is.
+-- In order: one entry of a scan; the wait; rule B3's loop; rule B4; is the newest pending; laying; finishing. Assumes
+-- nothing.
 use Prim.Native.Nat.{ℕ, zero, suc, _-_, _≤_, _<_}
 use mathlib.Core.Path.{_≡_}
 use mathlib.Core.List.{List}
@@ -8,7 +9,8 @@ use mathlib.Core.Bool.{Bool, true, false}
 use lib.Dec.{ltb}
 use native.Mathlib.Omega.{arith}
 use borrow.Author.Tests.{lt-ltb, le-ltb, le-leb, lt-leb, eq-eqb, ne-eqb}
-use Rattle.bundle.specs.Bundle.{wordAt, putAt, lookOf, goOn, scanOf, holdsUp, atOf, newestOf, heldOf, layOf, finishOf}
+use Rattle.bundle.specs.Bundle.{wordAt, putAt, lookOf, goOn, scanOf, holdsUp, atOf, newestOf, heldOf, layOf}
+use Rattle.bundle.specs.Bundle.{finishOf}
 use Rattle.bundle.specs.declared.Read.{Read}
 use Rattle.bundle.specs.declared.Held.{Held}
 use Rattle.bundle.specs.declared.Look.{Look}

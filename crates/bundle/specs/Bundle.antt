@@ -1,6 +1,6 @@
 -- The entries table: its words, and the bundle rules over any content of it (document 01, B1 to B4).
--- In order: words; one entry of a scan; rule B3; rule B4; is the newest pending; laying; finishing.
--- `size` is how many entries the table holds; `es` is the table; a link is 0 for none, else an entry's number and one more.
+-- In order: words; one entry of a scan; rule B3; rule B4; is the newest pending; laying; finishing. `size` is how
+-- many entries the table holds; `es` is the table; a link is 0 for none, else an entry's number and one more.
 -- Not here: rows as lists and what these definitions are of them (specs/Shows.antt). Assumes nothing.
 use Prim.Native.Nat.{ℕ, zero, suc, _-_}
 use mathlib.Core.List.{List}

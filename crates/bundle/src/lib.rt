@@ -1,8 +1,8 @@
 // The bundle: rows of entries, newest first, in a lent table of 4 words an entry (document 01, rules B1 to B4).
-// In order: one word; reading at a snapshot (B3); reading the newest (B4) and whether it is pending; laying; finishing.
-// A link is 0 for none, else an entry's number and one more. `size` is how many entries the table holds.
-// Not here: whose row a link begins, and who may lay or finish (the list's).
-// Every function is total, on any content of the table (crate table).
+// In order: one word; reading at a snapshot (B3); reading the newest (B4) and whether it is pending; laying;
+// finishing. A link is 0 for none, else an entry's number and one more. `size` is how many entries the table holds.
+// Not here: whose row a link begins, and who may lay or finish (the list's). Every function is total, on any content
+// of the table (crate table).
 ghost use mathlib.Core.Path.{_≡_};
 ghost use Rattle.bundle.specs.Bundle.{wordAt, putAt, lookOf, holdsUp, atOf, newestOf, heldOf, layOf, finishOf};
 

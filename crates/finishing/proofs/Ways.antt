@@ -1,4 +1,5 @@
--- Each way out of Number, Link and Finish, over plain values: what the code read and tested, and what the step then is.
+-- Each way out of Number, Link and Finish, over plain values: what the code read and tested, and what the step then
+-- is.
 -- In order: Number; Link; Finish. Assumes nothing.
 use Prim.Native.Nat.{ℕ, _+_, _≤_, _<_}
 use mathlib.Core.Path.{_≡_}
@@ -15,7 +16,8 @@ use Rattle.terms.specs.declared.Op.{Op}
 use Rattle.terms.specs.declared.Answer.{Answer}
 use Rattle.steps.specs.declared.Phase.{Phase}
 use Rattle.steps.specs.declared.Stepped.{Stepped}
-use Rattle.steps.specs.Steps.{Done, done, Moved, moved, works, ends, damaged, raised, numberStep, insertLink, removeLink, linkStep, finishedOf, usable, finishStep}
+use Rattle.steps.specs.Steps.{Done, done, Moved, moved, works, ends, damaged, raised, numberStep, insertLink}
+use Rattle.steps.specs.Steps.{removeLink, linkStep, finishedOf, usable, finishStep}
 
 -- ---- Number
 module _ (z : Size) (c : Counters) (op : Op) (pred node lower upper : ℕ) (r : Stepped) where

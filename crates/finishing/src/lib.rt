@@ -61,7 +61,8 @@ fn link_insert(
     upper: u32,
     number: u32,
 ) -> Stepped
-    ensures { λ r. ⌜ moved (now (nodes .exit)) r ≡ insertLink z (now (nodes .entry)) c op pred node lower upper number ⌝ }
+    ensures { λ r. ⌜ moved (now (nodes .exit)) r
+        ≡ insertLink z (now (nodes .entry)) c op pred node lower upper number ⌝ }
 {
     if z.nodes <= pred {
         let here = Phase::Link {
@@ -95,7 +96,8 @@ fn link_remove(
     upper: u32,
     number: u32,
 ) -> Stepped
-    ensures { λ r. ⌜ moved (now (nodes .exit)) r ≡ removeLink z (now (nodes .entry)) c op pred node lower upper number ⌝ }
+    ensures { λ r. ⌜ moved (now (nodes .exit)) r
+        ≡ removeLink z (now (nodes .entry)) c op pred node lower upper number ⌝ }
 {
     let here = Phase::Link {
         pred,
@@ -134,7 +136,8 @@ pub fn link(
     upper: u32,
     number: u32,
 ) -> Stepped
-    ensures { λ r. ⌜ moved (now (nodes .exit)) r ≡ linkStep z (now (nodes .entry)) c op pred node lower upper number ⌝ }
+    ensures { λ r. ⌜ moved (now (nodes .exit)) r
+        ≡ linkStep z (now (nodes .entry)) c op pred node lower upper number ⌝ }
 {
     if terms::removes(op) {
         return link_remove(z, nodes, c, op, pred, node, lower, upper, number);

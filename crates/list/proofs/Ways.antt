@@ -9,7 +9,9 @@ use Rattle.terms.specs.declared.Op.{Op}
 use Rattle.terms.specs.declared.Refusal.{Refusal}
 use Rattle.steps.specs.declared.Phase.{Phase}
 use Rattle.steps.specs.declared.Stepped.{Stepped}
-use Rattle.steps.specs.Steps.{Done, done, Moved, moved, over, refuses, lockedOf, walkStep, lockStep, checkStep, prepareStep, numberStep, linkStep, finishStep, newestStep, fixStep, followStep, handStep, actStep}
+use Rattle.steps.specs.Steps.{Done, done, Moved, moved, over, refuses, lockedOf, walkStep, lockStep, checkStep}
+use Rattle.steps.specs.Steps.{prepareStep, numberStep, linkStep, finishStep, newestStep, fixStep, followStep}
+use Rattle.steps.specs.Steps.{handStep, actStep}
 
 -- a step that leaves the entries as they are
 over-is : (ns es : List ℕ) (r : Stepped) (m : Moved) → moved ns r ≡ m → done ns es r ≡ over es m
@@ -66,7 +68,22 @@ module _ (z : Size) (ns es : List ℕ) (c : Counters) (who : ℕ) (op : Op) (ph 
         → done ns es r ≡ acts
     act-follow p e = rw (p, e)
 
-    pub act-hand : ph ≡ Phase.Hand at snapshot handed → r ≡ handStep z ns c op at snapshot handed → done ns es r ≡ acts
+    pub act-hand : ph ≡ Phase.Hand at snapshot handed → r ≡ handStep z ns c op at snapshot handed
+        → done ns es r ≡ acts
     act-hand p e = rw (p, e)
 
-pub ruleset acted = (act-idle, act-walk, act-lock, act-lock-curr, act-check, act-prepare, act-number, act-link, act-finish, act-newest, act-fix, act-follow, act-hand)
+pub ruleset acted = (
+  act-idle,
+  act-walk,
+  act-lock,
+  act-lock-curr,
+  act-check,
+  act-prepare,
+  act-number,
+  act-link,
+  act-finish,
+  act-newest,
+  act-fix,
+  act-follow,
+  act-hand,
+)

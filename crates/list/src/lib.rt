@@ -1,5 +1,6 @@
 // The list steps: one step of a session, by the phase that its record has reached.
-// Not here: the checks before a step (crate register), and what a step means (crate steps, specs/Steps.antt). Assumes nothing.
+// Not here: the checks before a step (crate register), and what a step means (crate steps, specs/Steps.antt). Assumes
+// nothing.
 ghost use mathlib.Core.Path.{_≡_};
 ghost use Prim.Native.Nat.{_<_};
 ghost use Rattle.steps.specs.Steps.{done, actStep};

@@ -14,7 +14,8 @@ use Rattle.terms.specs.declared.Op.{Op}
 use Rattle.terms.specs.declared.Answer.{Answer}
 use Rattle.steps.specs.declared.Phase.{Phase}
 use Rattle.steps.specs.declared.Stepped.{Stepped}
-use Rattle.steps.specs.Steps.{Moved, moved, works, waits, ends, damaged, free, againOf, linkedOf, lockStep, insertMeets, insertCheck, removeCheck, checkStep}
+use Rattle.steps.specs.Steps.{Moved, moved, works, waits, ends, damaged, free, againOf, linkedOf, lockStep}
+use Rattle.steps.specs.Steps.{insertMeets, insertCheck, removeCheck, checkStep}
 
 -- ---- Lock
 pub free-none : (who w : ℕ) → w ≡ 0 → true ≡ free who w
@@ -25,20 +26,21 @@ pub free-own : (who w : ℕ) → (w ≡ 0 → ⊥) → eqb w (who + 1) ≡ free 
 unfolding free
 free-own who w h = simp (ne-eqb w 0 h)
 
-module _ (z : Size) (ns : List ℕ) (c : Counters) (who : ℕ) (op : Op) (node : ℕ) (here then : Phase) (r : Stepped) where
-  pub lock-past : z .nodes ≤ node → r ≡ damaged c op here → moved ns r ≡ lockStep z ns c who op node here then
-  unfolding lockStep
-  lock-past past e = rw (le-ltb _ _ past, e)
-
-  module _ (w : ℕ) (b : Bool) (in-table : node < z .nodes) (word : w ≡ lockAt ns node) (test : b ≡ free who w) where
-    pub lock-takes : (ns′ : List ℕ) → b ≡ true → ns′ ≡ putNode ns node 3 (who + 1) → r ≡ works c op then
-        → moved ns′ r ≡ lockStep z ns c who op node here then
+module _ (z : Size) (ns : List ℕ) (c : Counters) (who : ℕ) (op : Op) (node : ℕ) (here then : Phase) (r : Stepped)
+  where
+    pub lock-past : z .nodes ≤ node → r ≡ damaged c op here → moved ns r ≡ lockStep z ns c who op node here then
     unfolding lockStep
-    lock-takes ns′ h p e = rw (lt-ltb _ _ in-table, ← word, ← test, h, e, p)
+    lock-past past e = rw (le-ltb _ _ past, e)
 
-    pub lock-waits : b ≡ false → r ≡ waits c op here → moved ns r ≡ lockStep z ns c who op node here then
-    unfolding lockStep
-    lock-waits h e = rw (lt-ltb _ _ in-table, ← word, ← test, h, e)
+    module _ (w : ℕ) (b : Bool) (in-table : node < z .nodes) (word : w ≡ lockAt ns node) (test : b ≡ free who w) where
+      pub lock-takes : (ns′ : List ℕ) → b ≡ true → ns′ ≡ putNode ns node 3 (who + 1) → r ≡ works c op then
+          → moved ns′ r ≡ lockStep z ns c who op node here then
+      unfolding lockStep
+      lock-takes ns′ h p e = rw (lt-ltb _ _ in-table, ← word, ← test, h, e, p)
+
+      pub lock-waits : b ≡ false → r ≡ waits c op here → moved ns r ≡ lockStep z ns c who op node here then
+      unfolding lockStep
+      lock-waits h e = rw (lt-ltb _ _ in-table, ← word, ← test, h, e)
 
 pub ruleset locked = (free-none, free-own, lock-past, lock-takes, lock-waits)
 
@@ -63,11 +65,13 @@ module _ (z : Size) (ns : List ℕ) (c : Counters) (op : Op) (pred curr : ℕ) w
 
     module _ (n : ℕ) (stays : m ≡ 0) (next : n ≡ nextAt ns pred) where
       pub insert-moved : (d : Moved) → (n ≡ curr → ⊥)
-          → d ≡ moved (unlockedBoth ns pred curr false) (works c op (againOf ns)) → d ≡ insertCheck z ns c op pred curr
+          → d ≡ moved (unlockedBoth ns pred curr false) (works c op (againOf ns))
+          → d ≡ insertCheck z ns c op pred curr
       unfolding insertCheck
       insert-moved d other e = rw (lt-ltb _ _ in-table, ← mark, eq-eqb m 0 stays, ← next, ne-eqb n curr other, e)
 
-      pub insert-stands : (d : Moved) → n ≡ curr → d ≡ insertMeets z ns c op pred curr → d ≡ insertCheck z ns c op pred curr
+      pub insert-stands : (d : Moved) → n ≡ curr → d ≡ insertMeets z ns c op pred curr
+          → d ≡ insertCheck z ns c op pred curr
       unfolding insertCheck
       insert-stands d linked e = rw (lt-ltb _ _ in-table, ← mark, eq-eqb m 0 stays, ← next, eq-eqb n curr linked, e)
 
@@ -132,7 +136,8 @@ module _ (z : Size) (ns : List ℕ) (c : Counters) (op : Op) (pred curr : ℕ) w
       remove-goes r same e =
           rw (lt-ltb _ _ pred-in, lt-ltb _ _ curr-in, ← test, stands, ← key, ← sought, eq-eqb k s same, e)
 
-      pub remove-absent : (d : Moved) → (k ≡ s → ⊥) → d ≡ moved (unlockedBoth ns pred curr true) (ends c Answer.Absent)
+      pub remove-absent : (d : Moved) → (k ≡ s → ⊥)
+          → d ≡ moved (unlockedBoth ns pred curr true) (ends c Answer.Absent)
           → d ≡ removeCheck z ns c op pred curr
       unfolding removeCheck
       remove-absent d other e =
@@ -141,7 +146,8 @@ module _ (z : Size) (ns : List ℕ) (c : Counters) (op : Op) (pred curr : ℕ) w
 pub ruleset remove-checked = (remove-past, remove-curr-past, remove-again, remove-goes, remove-absent)
 
 -- ---- Check, by the operation
-module _ (z : Size) (ns : List ℕ) (c : Counters) (op : Op) (pred curr : ℕ) (b : Bool) (test : b ≡ removesOf op) (d : Moved) where
+module _ (z : Size) (ns : List ℕ) (c : Counters) (op : Op) (pred curr : ℕ) (b : Bool) (test : b
+    ≡ removesOf op) (d : Moved) where
   pub check-remove : b ≡ true → d ≡ removeCheck z ns c op pred curr → d ≡ checkStep z ns c op pred curr
   unfolding checkStep
   check-remove h e = rw (← test, h, e)

@@ -3,7 +3,19 @@
 // Assumes nothing.
 ghost use mathlib.Core.Path.{_≡_};
 ghost use Prim.Native.Nat.{_<_};
-ghost use Rattle.steps.specs.Steps.{moved, free, againOf, lockStep, linkedOf, insertMeets, insertCheck, removeCheck, checkStep, works, ends};
+ghost use Rattle.steps.specs.Steps.{
+  moved,
+  free,
+  againOf,
+  lockStep,
+  linkedOf,
+  insertMeets,
+  insertCheck,
+  removeCheck,
+  checkStep,
+  works,
+  ends,
+};
 ghost use Rattle.nodes.specs.Nodes.{unlockedBoth};
 use nodes::KEY;
 use nodes::LOCK;
@@ -78,7 +90,8 @@ fn leave(
     both: bool,
     answer: Answer,
 ) -> Stepped
-    ensures { λ r. ⌜ moved (now (nodes .exit)) r ≡ moved (unlockedBoth (now (nodes .entry)) pred curr both) (ends c answer) ⌝ }
+    ensures { λ r. ⌜ moved (now (nodes .exit)) r
+        ≡ moved (unlockedBoth (now (nodes .entry)) pred curr both) (ends c answer) ⌝ }
 {
     nodes::unlock_both(nodes, pred, curr, both);
     steps::end(c, answer)

@@ -1,6 +1,7 @@
--- The node table: node n has words 0 key, 1 value, 2 plain next, 3 lock (0 free, else the holder's session and one more),
--- 4 removed (0 or not), 5 newest (0 none, else the number of the newest entry of its bundle and one more).
--- In order: words; unlocking; a new node. Not here: the table's size. Assumes nothing.
+-- The node table: node n has words 0 key, 1 value, 2 plain next, 3 lock (0 free, else the holder's session and one
+-- more), 4 removed (0 or not), 5 newest (0 none, else the number of the newest entry of its bundle and one more).
+-- In order: words; unlocking; a new node.
+-- Not here: the table's size. Assumes nothing.
 use Prim.Native.Nat.{ℕ}
 use mathlib.Core.List.{List}
 use mathlib.Core.Bool.{Bool, cond}

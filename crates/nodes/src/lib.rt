@@ -1,7 +1,7 @@
 // The node table: 6 words a node, in a lent slice.
 // In order: where each word stands; reading one and storing one; unlocking; a new node.
-// Not here: which node is whose, and the table's length (the list's). Every function is total, on any content of the table
-// (crate table). Assumes nothing.
+// Not here: which node is whose, and the table's length (the list's). Every function is total, on any content of the
+// table (crate table). Assumes nothing.
 ghost use mathlib.Core.Path.{_≡_};
 ghost use Rattle.nodes.specs.Nodes.{nodeAt, putNode, unlocked, unlockedBoth, namedNode, clearNode, newNode};
 

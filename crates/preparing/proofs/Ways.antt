@@ -16,7 +16,9 @@ use Rattle.terms.specs.declared.Answer.{Answer}
 use Rattle.terms.specs.declared.Refusal.{Refusal}
 use Rattle.steps.specs.declared.Phase.{Phase}
 use Rattle.steps.specs.declared.Stepped.{Stepped}
-use Rattle.steps.specs.Steps.{Done, done, Tables, tables, leaves, works, waits, ends, damaged, counted, heldAt, orElse, heldEither, layIn, insertLaid, removeLaid, insertRoom, removeRoom, insertPrepare, removePrepare, prepareStep}
+use Rattle.steps.specs.Steps.{Done, done, Tables, tables, leaves, works, waits, ends, damaged, counted, heldAt}
+use Rattle.steps.specs.Steps.{orElse, heldEither, layIn, insertLaid, removeLaid, insertRoom, removeRoom}
+use Rattle.steps.specs.Steps.{insertPrepare, removePrepare, prepareStep}
 
 -- ---- is a newest entry pending
 module _ (z : Size) (ns es : List ℕ) (node : ℕ) where
@@ -44,7 +46,8 @@ module _ (z : Size) (ns es : List ℕ) (pred curr : ℕ) (a : Held) (first : a �
 pub ruleset either = (either-free, either-waits, either-broken)
 
 -- ---- laying
-pub lays : (ns ns′ es es′ : List ℕ) (node e target stamp o : ℕ) → o ≡ newestAt ns node → es′ ≡ layOf es e target stamp o
+pub lays : (ns ns′ es es′ : List ℕ) (node e target stamp o : ℕ) → o ≡ newestAt ns node
+    → es′ ≡ layOf es e target stamp o
     → ns′ ≡ putNode ns node 5 (e + 1) → tables ns′ es′ ≡ layIn node e target stamp (tables ns es)
 unfolding layIn
 lays ns ns′ es es′ node e target stamp o older h p = rw (h, p, older)
@@ -142,7 +145,8 @@ pub ruleset insert-prepared = (insert-waits, insert-broken, insert-free)
 
 pub ruleset remove-prepared = (remove-waits, remove-broken, remove-free)
 
-module _ (z : Size) (ns es : List ℕ) (c : Counters) (op : Op) (pred curr : ℕ) (b : Bool) (test : b ≡ removesOf op) (d : Done) where
+module _ (z : Size) (ns es : List ℕ) (c : Counters) (op : Op) (pred curr : ℕ) (b : Bool) (test : b
+    ≡ removesOf op) (d : Done) where
   pub prepare-remove : b ≡ true → d ≡ removePrepare z ns es c op pred curr → d ≡ prepareStep z ns es c op pred curr
   unfolding prepareStep
   prepare-remove h e = rw (← test, h, e)

@@ -1,4 +1,5 @@
--- Each way out of the steps that write nothing, over plain values: what the code read and tested, and what the step then is.
+-- Each way out of the steps that write nothing, over plain values: what the code read and tested, and what the step
+-- then is.
 -- In order: Walk; has's Follow; Follow; Hand. Assumes nothing.
 use Prim.Native.Nat.{ℕ, _+_, _≤_, _<_}
 use mathlib.Core.Path.{_≡_}
@@ -14,7 +15,8 @@ use Rattle.terms.specs.declared.Op.{Op}
 use Rattle.terms.specs.declared.Answer.{Answer}
 use Rattle.steps.specs.declared.Phase.{Phase}
 use Rattle.steps.specs.declared.Stepped.{Stepped}
-use Rattle.steps.specs.Steps.{arrivedOf, gives, works, waits, ends, damaged, walkStep, hasSees, newestStep, rangeSees, followStep, handStep}
+use Rattle.steps.specs.Steps.{arrivedOf, gives, works, waits, ends, damaged, walkStep, hasSees, newestStep, rangeSees}
+use Rattle.steps.specs.Steps.{followStep, handStep}
 
 -- ---- Walk
 module _ (z : Size) (ns : List ℕ) (c : Counters) (op : Op) (pred curr : ℕ) (r : Stepped) where

@@ -22,10 +22,12 @@ use Rattle.steps.specs.declared.Stepped.{Stepped}
 use Rattle.steps.specs.Steps.{Done, done, busyOf, refuses, actStep}
 use Rattle.register.specs.declared.Started.{Started}
 use Rattle.register.specs.declared.Opened.{Opened}
-use Rattle.register.specs.Register.{fits, freshNodes, freshEntries, freshCounters, freshOf, opened, badKey, keeps, began, startOf, stepOf}
+use Rattle.register.specs.Register.{fits, freshNodes, freshEntries, freshCounters, freshOf, opened, badKey}
+use Rattle.register.specs.Register.{keeps, began, startOf, stepOf}
 
 -- ---- the tables' lengths
-pub fits-nodes : (z : Size) (ns es : List ℕ) → length ns ≡ z .nodes * 6 → eqb (length es) (z .entries * 4) ≡ fits z ns es
+pub fits-nodes : (z : Size) (ns es : List ℕ) → length ns ≡ z .nodes * 6
+    → eqb (length es) (z .entries * 4) ≡ fits z ns es
 unfolding fits
 fits-nodes z ns es h = rw (eq-eqb _ _ h)
 

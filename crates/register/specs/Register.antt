@@ -1,6 +1,7 @@
 -- The register's public calls: what each answers and leaves, refusals in document 01's order.
--- In order: the tables' lengths; fresh; start (7, 1, 2, 3, 4); step (7, 1, 5, and 8 by the step); a call over sixteen records.
--- `z` is the size, `ns` and `es` are the lent tables. Not here: the steps (crate steps). Assumes nothing.
+-- In order: the tables' lengths; fresh; start (7, 1, 2, 3, 4); step (7, 1, 5, and 8 by the step); a call over sixteen
+-- records. `z` is the size, `ns` and `es` are the lent tables.
+-- Not here: the steps (crate steps). Assumes nothing.
 use Prim.Native.Nat.{ℕ, _*_}
 use mathlib.Core.List.{List}
 use mathlib.Core.Bool.{Bool, true, false, cond, _&&_, _||_}
@@ -26,7 +27,8 @@ use Rattle.register.specs.declared.Opened.{Opened}
 unfoldable pub fits : Size → List ℕ → List ℕ → Bool
 fits z ns es = eqb (length ns) (z .nodes * 6) && eqb (length es) (z .entries * 4)
 
--- ---- fresh: head (node 0), tail (node 1), entry 0 in the head's bundle with stamp 0 to the tail, plain link head to tail
+-- ---- fresh: head (node 0), tail (node 1), entry 0 in the head's bundle with stamp 0 to the tail, plain link head to
+-- tail
 pub data Fresh : Type 0 where
   opened : List ℕ → List ℕ → Opened → Fresh
 

@@ -1,6 +1,7 @@
-// The register's public calls: fresh, start and step over two lent tables, and one call over sixteen records for programs.
-// In order: what the calls return; the tables' lengths; fresh; start; step; the call over sixteen records.
-// No call has a `requires`: bad tables, sessions, keys, ranges and contents are refused by number (document 01).
+// The register's public calls: fresh, start and step over two lent tables, and one call over sixteen records for
+// programs.
+// In order: what the calls return; the tables' lengths; fresh; start; step; the call over sixteen records. No call
+// has a `requires`: bad tables, sessions, keys, ranges and contents are refused by number (document 01).
 // Not here: the step through a reference to the record (crate inplace), listings (crate listing). Assumes nothing.
 ghost use mathlib.Core.Path.{_≡_};
 ghost use Rattle.terms.specs.Terms.{small};

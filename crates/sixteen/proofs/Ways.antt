@@ -17,7 +17,8 @@ use Rattle.register.specs.Register.{startOf, stepOf}
 use Rattle.sixteen.specs.declared.Register.{Register}
 use Rattle.sixteen.specs.declared.Call.{Call}
 use Rattle.sixteen.specs.declared.Served.{Served}
-use Rattle.sixteen.specs.Sixteen.{sessionOf, with, freshRegister, Left, served, serveStart, afterStep, serveStep, serveOf}
+use Rattle.sixteen.specs.Sixteen.{sessionOf, with, freshRegister, Left, served, serveStart, afterStep}
+use Rattle.sixteen.specs.Sixteen.{serveStep, serveOf}
 
 -- ---- one record out of sixteen
 module _ (all : List Session) (who : ℕ) (sixteen : length all ≡ 16) (past : 16 ≤ who) where
@@ -37,14 +38,18 @@ all-idle c s e = rw e
 -- ---- start and step
 module _ (z : Size) (ns es : List ℕ) (g : Register) (who : ℕ) (s : Session) (taken : s ≡ sessionOf (g .sessions) who)
     (all : List Session) where
-  pub serves-start : (op : Op) (out : Started) → out ≡ startOf z ns es who s op → all ≡ set (g .sessions) who (out .session)
+  pub serves-start : (op : Op) (out : Started) → out ≡ startOf z ns es who s op
+      → all ≡ set (g .sessions) who (out .session)
       → record { register = record { counters = g .counters; sessions = all }; answer = out .answer }
       ≡ serveStart z ns es g who op
   serves-start op out e a = rw (a, e, taken)
 
   pub serves-step : (ns′ es′ : List ℕ) (out : Stepped) → done ns′ es′ out ≡ stepOf z ns es (g .counters) who s
       → all ≡ set (g .sessions) who (out .session)
-      → served ns′ es′ (record { register = record { counters = out .counters; sessions = all }; answer = out .answer })
+      → served ns′ es′ (record {
+        register = record { counters = out .counters; sessions = all };
+        answer = out .answer;
+      })
       ≡ serveStep z ns es g who
   serves-step ns′ es′ out e a = rw (a, ← taken, ← e)
 

@@ -1,5 +1,6 @@
 -- A register with its sixteen session records, and what a call to it leaves and answers.
--- In order: records; a fresh register's; a start; a step; any call. A call changes the record of its own session and no other.
+-- In order: records; a fresh register's; a start; a step; any call. A call changes the record of its own session and
+-- no other.
 -- Not here: what a start and a step of one record are (crate register). Assumes nothing.
 use Prim.Native.Nat.{ℕ}
 use mathlib.Core.List.{List}

@@ -1,7 +1,8 @@
--- Every step of document 01, in its order and words: what the tables, the counters and the record become, and the answer.
--- In order: records and what a step leaves; Walk; Lock; Check; Prepare; Number; Link; Finish; has's Follow; Fix; Follow; Hand;
--- the step by its phase. `z` is the size, `ns` and `es` are the node and the entries table, `c` the counters.
--- A node or an entry number is tested where a step first uses it, before any write (document 01, Damaged).
+-- Every step of document 01, in its order and words: what the tables, the counters and the record become, and the
+-- answer.
+-- In order: records and what a step leaves; Walk; Lock; Check; Prepare; Number; Link; Finish; has's Follow; Fix;
+-- Follow; Hand; the step by its phase. `z` is the size, `ns` and `es` are the node and the entries table, `c` the
+-- counters. A node or an entry number is tested where a step first uses it, before any write (document 01, Damaged).
 -- Not here: the checks before a step, starting, a fresh register (crate register). Assumes nothing.
 use Prim.Native.Nat.{ℕ, _+_}
 use mathlib.Core.List.{List}
@@ -10,7 +11,8 @@ use lib.Dec.{ltb, leb, eqb}
 use Rattle.bundle.specs.Bundle.{atOf, newestOf, heldOf, layOf, finishOf}
 use Rattle.bundle.specs.declared.Read.{Read}
 use Rattle.bundle.specs.declared.Held.{Held}
-use Rattle.nodes.specs.Nodes.{putNode, keyAt, valueAt, nextAt, lockAt, removedAt, newestAt, unlocked, unlockedBoth, newNode}
+use Rattle.nodes.specs.Nodes.{putNode, keyAt, valueAt, nextAt, lockAt, removedAt, newestAt, unlocked, unlockedBoth}
+use Rattle.nodes.specs.Nodes.{newNode}
 use Rattle.terms.specs.Terms.{soughtOf, highOf, valueOf, removesOf, namesOf}
 use Rattle.terms.specs.declared.Size.{Size}
 use Rattle.terms.specs.declared.Counters.{Counters}
@@ -140,7 +142,8 @@ removeCheck z ns c op pred curr =
     (moved ns (damaged c op (Phase.Check pred curr)))
 
 unfoldable pub checkStep : Size → List ℕ → Counters → Op → ℕ → ℕ → Moved
-checkStep z ns c op pred curr = cond (removesOf op) (removeCheck z ns c op pred curr) (insertCheck z ns c op pred curr)
+checkStep z ns c op pred curr = cond (removesOf op) (removeCheck z ns c op pred curr) (insertCheck z ns c op pred
+    curr)
 
 -- ---- Prepare: wait if a newest entry is pending; then the counters; then lay
 pub data Tables : Type 0 where
@@ -151,13 +154,15 @@ leaves (tables ns es) r = done ns es r
 
 -- entry e, pending, to the target, in front of the node's bundle
 unfoldable pub layIn : ℕ → ℕ → ℕ → ℕ → Tables → Tables
-layIn node e target stamp (tables ns es) = tables (putNode ns node 5 (e + 1)) (layOf es e target stamp (newestAt ns node))
+layIn node e target stamp (tables ns es) = tables (putNode ns node 5 (e + 1)) (layOf es e target stamp (newestAt ns
+    node))
 
 -- the new node between pred and curr, then the entry in pred to it, then its own to curr
 unfoldable pub insertLaid : List ℕ → List ℕ → Counters → Op → ℕ → ℕ → Tables
 insertLaid ns es c op pred curr =
     layIn (c .nodes) (c .entries + 1) curr (c .stamp)
-    (layIn pred (c .entries) (c .nodes) (c .stamp) (tables (newNode ns (c .nodes) (soughtOf op) (valueOf op) curr) es))
+    (layIn pred (c .entries) (c .nodes) (c .stamp) (tables (newNode ns (c .nodes) (soughtOf op) (valueOf op) curr)
+    es))
 
 -- the entry in pred to curr's next, then curr's to the head
 unfoldable pub removeLaid : List ℕ → List ℕ → Counters → ℕ → ℕ → Tables

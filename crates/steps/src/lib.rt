@@ -1,16 +1,27 @@
 // The list's session record, what a step returns, and the small functions that build both.
 // In order: phases and records; what a step returns; where a walk and a lock lead; whether a session is busy.
-// Not here: the phases' own functions (crates reading, locking, preparing, finishing). specs/Steps.antt defines every step.
-// Assumes nothing.
+// Not here: the phases' own functions (crates reading, locking, preparing, finishing). specs/Steps.antt defines every
+// step. Assumes nothing.
 ghost use mathlib.Core.Path.{_≡_};
-ghost use Rattle.steps.specs.Steps.{idle, gives, works, waits, ends, refuses, arrivedOf, lockedOf, underWay, busyOf};
+ghost use Rattle.steps.specs.Steps.{
+  idle,
+  gives,
+  works,
+  waits,
+  ends,
+  refuses,
+  arrivedOf,
+  lockedOf,
+  underWay,
+  busyOf,
+};
 use terms::Answer;
 use terms::Counters;
 use terms::Op;
 use terms::Refusal;
 
-// Each phase with its own numbers. Past Prepare: `node` is the new node of an insert or the removed node of a remove, and
-// `lower` and `upper` are the entries laid in pred and in it.
+// Each phase with its own numbers. Past Prepare: `node` is the new node of an insert or the removed node of a remove,
+// and `lower` and `upper` are the entries laid in pred and in it.
 pub enum Phase {
     Idle,
     Walk {

@@ -28,7 +28,8 @@ places-apart width i j k l k<width l<width apart e = elim (decLt i j) [
 ]
   where
     same-row : i ≡ j → ⊥
-    same-row z = ⊎-elim (λ d. d z) (λ d. d (let q : i * width ≡ j * width = ap (λ x. x * width) z in omega arith)) apart
+    same-row z = ⊎-elim (λ d. d z) (λ d. d (let q : i * width
+        ≡ j * width = ap (λ x. x * width) z in omega arith)) apart
 
 module _ (width : ℕ) (t : List ℕ) (i k v : ℕ) where
   pub word-stored : i * width + k < length t → wordOf width (storeOf width t i k v) i k ≡ v

@@ -1,5 +1,6 @@
 // A lent table of 32-bit words, `width` words a row: word k of row i stands at place i * width + k.
-// In order: reading a word; storing one; clearing all. The first two are total: past the table's end a word reads as 0 and a store changes nothing,
+// In order: reading a word; storing one; clearing all. The first two are total: past the table's end a word reads as
+// 0 and a store changes nothing,
 // so that callers owe nothing on any content. Not here: what the words mean. Assumes nothing.
 ghost use mathlib.Core.Path.{_≡_};
 ghost use Rattle.table.specs.Table.{wordOf, storeOf, clearOf};

@@ -1,4 +1,5 @@
--- `bundle::read_at` meets its contract: what is left of the scan answers as the whole (proofs/Ways.antt). Assumes nothing.
+-- `bundle::read_at` meets its contract: what is left of the scan answers as the whole (proofs/Ways.antt). Assumes
+-- nothing.
 use Rattle.bundle.proofs.Ways.{scanned}
 use borrow.Author.Needs.{needs}
 use Prim.Native.Nat.{_≤_}

@@ -1,4 +1,5 @@
--- `table::clear` meets its contract: the words passed are 0, the others as they were (proofs/Ways.antt). Assumes nothing.
+-- `table::clear` meets its contract: the words passed are 0, the others as they were (proofs/Ways.antt). Assumes
+-- nothing.
 use Rattle.table.proofs.Ways.{cleared}
 use borrow.Author.Needs.{needs}
 use Prim.Native.Nat.{_≤_, _-_}
