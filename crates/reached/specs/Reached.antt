@@ -1,0 +1,114 @@
+-- A register reached from a fresh one by starts and steps, and the history that its calls give.
+-- In order: a register's state; a call's effect and answer; the history; what a call adds to it; reached.
+-- The history is computed from the calls and what they answered alone: nothing of an invariant is in it.
+-- Not here: a register read from a listing, which is a reached one by theorem. Assumes nothing.
+use Prim.Native.Nat.{ℕ}
+use mathlib.Core.Path.{_≡_}
+use mathlib.Core.Bool.{Bool, cond}
+use mathlib.Core.List.{List, [], _∷_, _++_}
+use lib.Dec.{ltb, eqb}
+use Rattle.order.specs.Set.{Pair, Update, insert, remove}
+use Rattle.terms.specs.declared.Size.{Size}
+use Rattle.terms.specs.declared.Counters.{Counters}
+use Rattle.terms.specs.declared.Op.{Op}
+use Rattle.terms.specs.declared.Answer.{Answer}
+use Rattle.steps.specs.declared.Session.{Session}
+use Rattle.register.specs.declared.Opened.{Opened}
+use Rattle.register.specs.Register.{freshOf, opened}
+use Rattle.sixteen.specs.declared.Register.{Register}
+use Rattle.sixteen.specs.declared.Call.{Call}
+use Rattle.sixteen.specs.Sixteen.{Left, served, sessionOf, freshRegister, serveOf}
+
+-- ---- a register: the two lent tables, and the counters with the sixteen records
+pub record State : Type 0 where
+  pub nodes : List ℕ
+  pub entries : List ℕ
+  pub register : Register
+
+abbrev pub stampOf : State → ℕ
+stampOf σ = σ .register .counters .stamp
+
+abbrev pub recordOf : State → ℕ → Session
+recordOf σ who = sessionOf (σ .register .sessions) who
+
+abbrev pub opOf : State → ℕ → Op
+opOf σ who = recordOf σ who .op
+
+-- ---- a call: whose it is, what it leaves, and its answer
+abbrev pub whoOf : Call → ℕ
+whoOf (Call.Start who op) = who
+whoOf (Call.Step who) = who
+
+abbrev pub stateIn : Left → State
+stateIn (served ns es r) = record { nodes = ns; entries = es; register = r .register }
+
+abbrev pub answerIn : Left → Answer
+answerIn (served ns es r) = r .answer
+
+abbrev pub called : Size → State → Call → Left
+called z σ c = serveOf z (σ .nodes) (σ .entries) (σ .register) c
+
+abbrev pub go : Size → State → Call → State
+go z σ c = stateIn (called z σ c)
+
+abbrev pub answer : Size → State → Call → Answer
+answer z σ c = answerIn (called z σ c)
+
+-- ---- the history: the updates numbered so far, the newest in front; for each session the stamp when its operation
+-- started, and the keys and values that it has been handed since
+pub record Past : Type 0 where
+  pub updates : List Update
+  pub since : ℕ → ℕ
+  pub handed : ℕ → List Pair
+
+abbrev pub noPast : Past
+noPast = record { updates = []; since = λ who. 0; handed = λ who. [] }
+
+-- the update that an operation makes
+abbrev pub updateOf : Op → List Update
+updateOf Op.None = []
+updateOf (Op.Insert k v) = insert k v ∷ []
+updateOf (Op.Remove k) = remove k ∷ []
+updateOf (Op.Has k) = []
+updateOf (Op.Range low high) = []
+
+-- ---- what a call adds: an update exactly where the stamp goes up; a start's stamp; a key and value handed out
+unfoldable pub at : {A : Type 0} → (ℕ → A) → ℕ → A → ℕ → A
+at f who a other = cond (eqb other who) a (f other)
+
+abbrev pub sinceBy : Answer → ℕ → ℕ → (ℕ → ℕ) → ℕ → ℕ
+sinceBy Answer.Started who stamp since = at since who stamp
+sinceBy Answer.Working who stamp since = since
+sinceBy Answer.Waiting who stamp since = since
+sinceBy (Answer.Key k v) who stamp since = since
+sinceBy (Answer.Inserted n) who stamp since = since
+sinceBy (Answer.Removed n) who stamp since = since
+sinceBy Answer.Present who stamp since = since
+sinceBy Answer.Absent who stamp since = since
+sinceBy (Answer.End t n) who stamp since = since
+sinceBy (Answer.Refused why) who stamp since = since
+
+abbrev pub handedBy : Answer → ℕ → (ℕ → List Pair) → ℕ → List Pair
+handedBy Answer.Started who handed = at handed who []
+handedBy Answer.Working who handed = handed
+handedBy Answer.Waiting who handed = handed
+handedBy (Answer.Key k v) who handed = at handed who (handed who ++ ((k, v) ∷ []))
+handedBy (Answer.Inserted n) who handed = handed
+handedBy (Answer.Removed n) who handed = handed
+handedBy Answer.Present who handed = handed
+handedBy Answer.Absent who handed = handed
+handedBy (Answer.End t n) who handed = handed
+handedBy (Answer.Refused why) who handed = handed
+
+abbrev pub note : Size → State → Call → Past → Past
+note z σ c h = record {
+  updates = cond (ltb (stampOf σ) (stampOf (go z σ c))) (updateOf (opOf σ (whoOf c)) ++ h .updates) (h .updates);
+  since = sinceBy (answer z σ c) (whoOf c) (stampOf σ) (h .since);
+  handed = handedBy (answer z σ c) (whoOf c) (h .handed);
+}
+
+-- ---- reached: from tables that fresh has opened, by starts and steps, each on what the last one left
+pub data Reached (z : Size) : State → Past → Type 0 where
+  fresh : (ns es ns′ es′ : List ℕ) (c : Counters) → freshOf z ns es ≡ opened ns′ es′ (Opened.Ready c)
+      → Reached z (record { nodes = ns′; entries = es′; register = freshRegister c }) noPast
+  on : {σ : State} {h : Past} → Reached z σ h → (c : Call) → Reached z (go z σ c) (note z σ c h)
