@@ -1,0 +1,150 @@
+-- Guards against the vacuous: document 002's Figure 1 begins with an insert of 20, and that runs to its end here;
+-- a range that begins between its Number and its Finish waits; and two broken drawings have no invariant.
+-- In order: the figure's keys; the insert, drawing by drawing; the waiting range; the broken drawings.
+-- Assumes nothing.
+use mathlib.Core.Path.{_≡_, refl}
+use mathlib.Core.Bool.{true, false}
+use mathlib.Core.Logic.{inl, inr}
+use mathlib.Core.Option.{none}
+use Rattle.order.proofs.Rows.{none-some}
+use Rattle.drawing.proofs.Room.{on-used}
+use mathlib.Core.List.{List, [], _∷_, List·Memᴰ·head}
+use Prim.Native.Nat.{ℕ, suc}
+use native.Mathlib.Omega.{arith}
+use lib.ListN.{getD}
+use Rattle.order.specs.Set.{insert, setAfter, put}
+use Rattle.order.specs.Rows.{readAt, readNewest}
+use Rattle.order.specs.History.{head, ins, empty, setOf, push, linked}
+use Rattle.drawing.specs.Phases.{upd, range, idle, walking, locking, checking, preparing, numbering, linking}
+use Rattle.drawing.specs.Phases.{finishing, fixing, following}
+use Rattle.drawing.specs.Drawing.{change, without, plainly, Drawing, beginning}
+use Rattle.drawing.specs.Effects.{stays, holds, leaves, lays, numbers, links, finishes, after, begun}
+use Rattle.drawing.specs.Steps.{Out, inserted, Step, Waits, Reached, begins, started, stepped, starts}
+use Rattle.drawing.specs.Steps.{walk-arrive, lock-pred, check-pass, prepare-insert, number-it, link-it}
+use Rattle.drawing.specs.Steps.{finish-it, fix-it}
+use Rattle.drawing.specs.Answers.{Right}
+use Rattle.drawing.proofs.Inv.{Inv}
+use Rattle.drawing.proofs.Reached.{reached-inv, reached-answers}
+
+-- ---- node 2 has key 20 and value 7
+abbrev key : ℕ → ℕ
+key x = getD (0 ∷ 4294967295 ∷ 20 ∷ []) x 0
+
+abbrev val : ℕ → ℕ
+val x = getD (0 ∷ 0 ∷ 7 ∷ []) x 0
+
+-- ---- session 0 inserts 20
+abbrev m₁ : Drawing
+m₁ = begun empty (beginning empty) 0 (walking (upd (insert 20 7)) 0 1)
+
+abbrev m₂ : Drawing
+m₂ = after empty m₁ 0 stays (locking (insert 20 7) 0 1)
+
+abbrev m₃ : Drawing
+m₃ = after empty m₂ 0 (holds 0) (checking (insert 20 7) 0 1)
+
+abbrev m₄ : Drawing
+m₄ = after empty m₃ 0 stays (preparing (insert 20 7) 0 1)
+
+abbrev m₅ : Drawing
+m₅ = after empty m₄ 0 (lays (insert 20 7) 0 2 1 ((0, 1) ∷ []) []) (numbering (insert 20 7) 0 2 1 0)
+
+abbrev m₆ : Drawing
+m₆ = after empty m₅ 0 (numbers (insert 20 7) 0 2 1) (linking (insert 20 7) 0 2 1 0 1)
+
+abbrev m₇ : Drawing
+m₇ = after empty m₆ 0 (links (insert 20 7) 0 2 1) (finishing (insert 20 7) 0 2 1 0 1)
+
+reached₁ : Reached key val empty m₁
+unfolding beginning change plainly
+reached₁ = started 0 begins (starts (upd (insert 20 7)) refl (omega arith, omega arith))
+
+reached₄ : Reached key val empty m₄
+unfolding beginning change plainly
+reached₄ =
+    stepped 0 (stepped 0 (stepped 0 reached₁
+    (walk-arrive (upd (insert 20 7)) 0 1 refl (omega arith)))
+    (lock-pred (insert 20 7) 0 1 refl (λ w e. none-some none w refl e)))
+    (check-pass (insert 20 7) 0 1 refl (refl, refl, tt) (omega arith))
+
+reached₆ : Reached key val empty m₆
+unfolding beginning change plainly linked
+reached₆ =
+    stepped 0 (stepped 0 reached₄
+    (prepare-insert 20 7 0 1 ((0, 1) ∷ []) 2 refl refl refl (omega arith) refl refl))
+    (number-it (insert 20 7) 0 2 1 0 refl)
+
+pub reached₇ : Reached key val empty m₇
+unfolding beginning change
+reached₇ = stepped 0 reached₆ (link-it (insert 20 7) 0 2 1 0 1 refl)
+
+-- it answers inserted with number 1, and the set is then 20 alone
+pub finishes-one : Step key val empty 0 m₇ (inserted 1) (finishes (insert 20 7) 0 2 1 1 ((0, 1) ∷ []) []) idle
+unfolding beginning change linked
+finishes-one = finish-it (insert 20 7) 0 2 1 0 1 ((0, 1) ∷ []) [] refl refl refl
+
+pub set-is-twenty : setOf key val empty (m₇ .log) ≡ (20, 7) ∷ []
+unfolding beginning setAfter put
+set-is-twenty = refl
+
+-- so the theorems speak of it
+pub one-inv : Inv key val empty m₇
+one-inv = reached-inv key val empty (omega arith, tt) reached₇
+
+pub one-right : Right key val empty m₇ 0 (inserted 1)
+one-right = reached-answers key val empty (omega arith, tt) reached₇ 0 finishes-one
+
+-- ---- session 1 begins a range after the Number: it fixes snapshot 1, and waits for the entry that carries 0
+abbrev w₁ : Drawing
+w₁ = begun empty m₆ 1 (walking (range 1 100) 0 1)
+
+abbrev w₂ : Drawing
+w₂ = after empty w₁ 1 stays (fixing 1 100 0)
+
+abbrev w₃ : Drawing
+w₃ = after empty w₂ 1 stays (following 1 100 0 1 [])
+
+pub reached-w₃ : Reached key val empty w₃
+unfolding beginning change plainly
+reached-w₃ =
+    stepped 1 (stepped 1 (started 1 reached₆
+    (starts (range 1 100) refl (omega arith, omega arith, omega arith)))
+    (walk-arrive (range 1 100) 0 1 refl (omega arith)))
+    (fix-it 1 100 0 refl)
+
+pub range-waits : Waits 1 w₃
+unfolding beginning change readAt
+range-waits = refl
+
+-- ---- the head that leads to itself: no invariant
+abbrev broken : Drawing
+broken = record {
+  plain = λ x. 0;
+  lock = λ x. none;
+  gone = λ x. false;
+  bundle = beginning empty .bundle;
+  log = [];
+  rows = beginning empty .rows;
+  phase = λ t. idle;
+  since = λ t. 0;
+}
+
+pub broken-no-inv : ¬ Inv key val empty broken
+broken-no-inv I = omega (arith, I .links head (inl refl) .0)
+
+-- ---- a finished insert whose node keeps an empty row: a range at snapshot 1 would find no entry
+abbrev unlinked : Drawing
+unlinked = record {
+  plain = m₇ .plain;
+  lock = λ x. none;
+  gone = λ x. false;
+  bundle = beginning empty .bundle;
+  log = ins 2 ∷ [];
+  rows = beginning empty .rows;
+  phase = λ t. idle;
+  since = λ t. 0;
+}
+
+pub unlinked-no-inv : ¬ Inv key val empty unlinked
+unfolding beginning linked
+unlinked-no-inv I = on-used key val empty unlinked I 2 (inr (inr (List·Memᴰ·head refl))) refl

@@ -1,0 +1,21 @@
+-- The laws and theorems of the crate, all to be cited by other crates.
+-- In order, each on those before: functions changed at a place; what lies before a reader; the invariant, with rely
+-- and grant; facts are stable; quiet steps, and the invariant put together; Prepare; Number; Link and Finish; every
+-- step keeps it; the beginning; every answer is right; nothing is stuck; what refutes Damaged; reached drawings; an
+-- example.
+-- Not here: definitions (specs/). Assumes nothing.
+pub mod Change
+pub mod Ahead
+pub mod Inv
+pub mod Stable
+pub mod Quiet
+pub mod Prepare
+pub mod Number
+pub mod Link
+pub mod Keeps
+pub mod Begin
+pub mod Answers
+pub mod Goes
+pub mod Room
+pub mod Reached
+pub mod Example

@@ -1,0 +1,30 @@
+-- Every reached drawing has the invariant, answers right and is not stuck.
+-- Assumes nothing.
+use mathlib.Core.Path.{_≡_}
+use mathlib.Core.Logic.{_⊎_}
+use Prim.Native.Nat.{ℕ}
+use Rattle.order.specs.History.{Start, InOrder}
+use Rattle.drawing.specs.Phases.{Phase, idle}
+use Rattle.drawing.specs.Drawing.{Drawing}
+use Rattle.drawing.specs.Effects.{Effect}
+use Rattle.drawing.specs.Steps.{Out, Step, Waits, Reached, begins, started, stepped}
+use Rattle.drawing.specs.Answers.{Right}
+use Rattle.drawing.proofs.Inv.{Inv}
+use Rattle.drawing.proofs.Keeps.{start-keeps, step-keeps}
+use Rattle.drawing.proofs.Begin.{begin-inv}
+use Rattle.drawing.proofs.Answers.{answers}
+use Rattle.drawing.proofs.Goes.{Goes, goes-or-waits}
+
+module _ (key val : ℕ → ℕ) (start : Start) (in-order : InOrder key start) where
+  pub reached-inv : {m : Drawing} → Reached key val start m → Inv key val start m
+  reached-inv begins = begin-inv key val start in-order
+  reached-inv (started {m} t r s) = start-keeps key val start m (reached-inv r) t s
+  reached-inv (stepped {m} t r s) = step-keeps key val start m (reached-inv r) t s
+
+  pub reached-answers : {m : Drawing} → Reached key val start m → (t : ℕ) {o : Out} {f : Effect} {φ : Phase} →
+      Step key val start t m o f φ → Right key val start m t o
+  reached-answers {m} r t s = answers key val start m (reached-inv r) t s
+
+  pub reached-goes : {m : Drawing} → Reached key val start m → (t : ℕ) →
+      (m .phase t ≡ idle) ⊎ (Waits t m ⊎ Goes key val start m t)
+  reached-goes {m} r t = goes-or-waits key val start m (reached-inv r) t

@@ -1,0 +1,1 @@
+// The abstract machine of document 01's steps: definitions (specs/) and theorems (proofs/). No code.
