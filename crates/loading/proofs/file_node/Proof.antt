@@ -1,0 +1,19 @@
+-- `loading::file_node` meets its contract: the link, then the node. Assumes nothing.
+use borrow.Author.Needs.{needs}
+use Rattle.loading.proofs.Words.{files}
+use Rattle.loading.proofs.file_node.Statement.{statement}
+use Rattle.loading.proofs.file_node.Tie as tie
+
+pub file-node-spec : {M : Type 1} → statement M
+file-node-spec =
+    tie.close
+    (tie.spec
+    (λ c. search needs)
+    (λ c. search needs)
+    (λ c. search needs)
+    (λ c. search needs)
+    (λ c κs. search needs)
+    (λ c. search needs)
+    (λ c κs. search needs)
+    (λ c. search needs)
+    (λ c. search files))

@@ -1,0 +1,16 @@
+-- `loading::fill` meets its contract: fresh tables, then all keys. Assumes nothing.
+use borrow.Author.Needs.{needs}
+use Rattle.loading.proofs.Words.{fill-all}
+use Rattle.loading.proofs.fill.Statement.{statement}
+use Rattle.loading.proofs.fill.Tie as tie
+
+pub fill-spec : {M : Type 1} → statement M
+fill-spec =
+    tie.close
+    (tie.spec
+    (λ c κs. search needs)
+    (λ c κs. search needs)
+    (λ c κs. search needs)
+    (λ c. search needs)
+    (λ c. search needs)
+    (λ c. search fill-all))

@@ -1,0 +1,13 @@
+-- `loading::pred` meets its contract: the head, or the node of the key before. Assumes nothing.
+use borrow.Author.Needs.{needs}
+use Rattle.loading.proofs.Words.{preds}
+use Rattle.loading.proofs.pred.Statement.{statement}
+use Rattle.loading.proofs.pred.Tie as tie
+
+pub pred-spec : {M : Type 1} → statement M
+pred-spec =
+    tie.close
+    (tie.spec
+    (λ c. search preds)
+    (λ c. search needs)
+    (λ c. search preds))

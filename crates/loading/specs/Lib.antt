@@ -1,0 +1,4 @@
+-- The definitions that the contracts cite.
+pub mod Tables
+pub mod Loading
+pub mod Members
