@@ -1,6 +1,6 @@
 -- Demand 3: no range query is starved.
--- In order: counted steps; busy sessions, and a query that is open; the nodes given; the demand, and the sharper bound.
--- It speaks of calls, answers, records and counters alone; fair calls are crate fairness's. Assumes nothing.
+-- In order: counted steps; busy sessions, and a query that is open; the nodes given; the demand, and the sharper
+-- bound. It speaks of calls, answers, records and counters alone; fair calls are crate fairness's. Assumes nothing.
 use Prim.Native.Nat.{ℕ, _+_, _-_, _*_, _<_}
 use mathlib.Core.Path.{_≡_}
 use mathlib.Core.Bool.{Bool, true}
@@ -56,9 +56,9 @@ abbrev pub AllInWords : List Call → Type 0
 AllInWords [] = Unit {0}
 AllInWords (c ∷ cs) = InWords c × AllInWords cs
 
--- ---- a range is started at a reached register, and calls follow. In any w counted steps in a row, while the query is
--- open, each session busy throughout them has one. Then fewer than w * (3n + 6) counted steps have passed while it is
--- open, and it ended before that many had; and its last call answers end, of which demand 2 tells the rest
+-- ---- a range is started at a reached register, and calls follow. In any w counted steps in a row, while the query
+-- is open, each session busy throughout them has one. Then fewer than w * (3n + 6) counted steps have passed while it
+-- is open, and it ended before that many had; and its last call answers end, of which demand 2 tells the rest
 module _ (σ : State) (q low high w : ℕ) (calls : List Call) where
   abbrev pub begun : State
   begun = go small σ (Call.Start q (Op.Range low high))
