@@ -1,41 +1,39 @@
 -- The steps that write nothing, in words and in the drawing: Walk, has's Follow, Fix, Follow, Hand.
 -- In order: quiet steps by their record; what the words of a node are; Walk; has's Follow; Fix; Follow; Hand.
 -- Not here: an update's own steps. Assumes nothing.
-use Prim.Native.Nat.{ℕ, suc, _+_, _≤_, _<_}
+use Prim.Native.Nat.{ℕ, _+_, _≤_, _<_}
 use mathlib.Core.Path.{_≡_, refl, sym, _∙_, ap}
-use mathlib.Core.Logic.{_⊎_, inl, inr, ⊎-elim, _≢_}
-use mathlib.Core.Option.{Option, some}
+use mathlib.Core.Logic.{inr, ⊎-elim}
+use mathlib.Core.Option.{some}
 use mathlib.Core.List.{List, [], _∷_, _++_}
 use native.Mathlib.Decide.{decLe, decLt, ℕ-discrete}
 use native.Mathlib.Omega.{arith}
 use lib.ListN.{length, length-append}
 use Rattle.order.specs.Set.{Pair, insert, remove}
-use Rattle.order.specs.Rows.{Row, wait, found, readAt, readNewest}
+use Rattle.order.specs.Rows.{wait, found, readAt, readNewest}
 use Rattle.order.specs.History.{empty, entry}
 use Rattle.bundle.specs.Bundle.{atOf, newestOf}
 use Rattle.bundle.specs.Shows.{asRead}
 use Rattle.bundle.proofs.Promise.{read-at-is, read-newest-is}
-use Rattle.nodes.specs.Nodes.{keyAt, valueAt, newestAt}
+use Rattle.nodes.specs.Nodes.{keyAt, newestAt}
 use Rattle.terms.specs.Terms.{small, soughtOf}
 use Rattle.terms.specs.declared.Counters.{Counters}
 use Rattle.terms.specs.declared.Op
-use Rattle.terms.specs.declared.Answer.{Answer}
 use Rattle.steps.specs.declared.Phase
 use Rattle.steps.specs.declared.Session.{Session}
 use Rattle.steps.specs.declared.Stepped.{Stepped}
 use Rattle.steps.specs.Steps
-use Rattle.steps.specs.Steps.{done, arrivedOf, gives, works, ends}
+use Rattle.steps.specs.Steps.{done, arrivedOf, works}
 use Rattle.reading.proofs.Ways
-use Rattle.reached.specs.Reached.{State, stampOf, recordOf, Past, at, handedBy}
+use Rattle.reached.specs.Reached.{State, recordOf, Past, at, handedBy}
 use Rattle.drawing.specs.Phases.{Op, upd, has, range, sought, Phase, idle, walking, seeking, fixing, following}
-use Rattle.drawing.specs.Phases.{handing}
-use Rattle.drawing.specs.Phases.{arrived}
-use Rattle.drawing.specs.Drawing.{final, shown, Drawing, now}
+use Rattle.drawing.specs.Phases.{handing, arrived}
+use Rattle.drawing.specs.Drawing.{shown, Drawing, now}
 use Rattle.drawing.specs.Effects.{stays}
 use Rattle.drawing.specs.Steps.{Out, working, present, absent, key-value, ended, Step, walk-on, walk-arrive, seek-on}
 use Rattle.drawing.specs.Steps.{seek-present, seek-absent, fix-it, follow-on, follow-in, follow-end, hand-out}
 use Rattle.drawing.proofs.Inv.{Facts}
-use Rattle.drawing.proofs.Room.{Names, newest-used, follow-used, hand-room}
+use Rattle.drawing.proofs.Room.{newest-used, follow-used, hand-room}
 use Rattle.drawing.proofs.Goes.{bundle-cases, newest-found, follow-finds}
 use Rattle.words.proofs.Show.{Sinks, opWord, running, Runs, HandedIn, outWord, Shown, Advanced}
 use Rattle.words.proofs.Land.{Busy, NoNumber, at-same, handed-at, quiet}
@@ -143,8 +141,8 @@ module _ (key val : ℕ → ℕ) (σ : State) (h : Past) (m : Drawing) (S : Show
       is = rw e at (S .runs t t<16)
 
   -- ---- has's Follow, where its newest entry leads to q
-  module _ (k x q : ℕ) (e : m .phase t ≡ seeking k x) (answer : readNewest (shown (m .bundle x))
-      ≡ found (some q)) where
+  module _ (k x q : ℕ) (e : m .phase t ≡ seeking k x)
+      (answer : readNewest (shown (m .bundle x)) ≡ found (some q)) where
     seek-below : x < c .nodes
     seek-below = named-below key val σ h m S t (seeking k x) e x refl
 
@@ -201,8 +199,8 @@ module _ (key val : ℕ → ℕ) (σ : State) (h : Past) (m : Drawing) (S : Show
       quietly (fixing low high p) e tt tt (running (range low high) (Phase.Phase.Fix p))
       (running (range low high) (Phase.Phase.Follow p (now empty m) 0)) working
       (following low high p (now empty m) []) (rw e at (S .runs t t<16))
-      (ap (λ s. done (σ .nodes) (σ .entries) (works c (Op.Op.Range low high) (Phase.Phase.Follow p s 0))) (S
-      .stamp))
+      (ap (λ s. done (σ .nodes) (σ .entries) (works c (Op.Op.Range low high) (Phase.Phase.Follow p s 0)))
+      (S .stamp))
       (fix-it low high p e) refl (handed-here (fixing low high p) e)
 
   -- ---- Follow, where the entry taken leads to q
@@ -293,8 +291,8 @@ module _ (key val : ℕ → ℕ) (σ : State) (h : Past) (m : Drawing) (S : Show
 
     pub hand-advances : Advanced key val σ h m t
     hand-advances =
-        quietly (handing low high x s given) e tt tt (running (range low high) (Phase.Phase.Hand x s (length
-        given)))
+        quietly (handing low high x s given) e tt tt
+        (running (range low high) (Phase.Phase.Hand x s (length given)))
         (running (range low high) (Phase.Phase.Follow x s (length given + 1))) (key-value (key x) (val x))
         (following low high x s (given ++ (entry key val x ∷ []))) (rw e at (S .runs t t<16))
         (ap (done (σ .nodes) (σ .entries)) (sym (Ways.hands small (σ .nodes) c (Op.Op.Range low high) x s

@@ -1,25 +1,24 @@
 -- Calls that begin an operation or are refused: a start, accepted or not; a step of an idle session or of none.
--- In order: what a start answers; a start refused; the drawing's operation; a start accepted; any start; a step
--- refused.
+-- In order: what a start answers; a start refused; the drawing's operation; a start accepted; any start, and what it
+-- leaves of the drawing; a step refused.
 -- Not here: a busy session's step. Assumes nothing.
 use Prim.Native.Nat.{ℕ, _≤_, _<_}
 use mathlib.Core.Path.{_≡_, refl, sym, _∙_, ap, subst}
-use mathlib.Core.Logic.{_⊎_, inl, inr, ⊎-elim, _≢_}
-use mathlib.Core.Bool.{Bool, true, false, cond, _||_}
-use mathlib.Core.List.{List, [], _∷_, map}
+use mathlib.Core.Logic.{⊎-elim, _≢_}
+use mathlib.Core.Bool.{Bool, true, false, _||_}
+use mathlib.Core.List.{List, []}
 use native.Mathlib.Decide.{ℕ-discrete, decLt}
 use native.Mathlib.Omega.{arith}
-use lib.ListN.{length, getD, set, length-set}
+use lib.ListN.{set, length-set}
 use lib.Seq.{getD-set-same, getD-set-other}
-use lib.Dec.{ltb, eqb}
+use lib.Dec.{eqb}
 use borrow.Author.Tests.{lt-ltb, le-ltb, eqb-false}
-use Rattle.order.specs.Set.{Pair, insert, remove}
-use Rattle.order.specs.History.{head, tail, empty, said}
+use Rattle.order.specs.Set.{insert, remove}
+use Rattle.order.specs.History.{head, tail, empty}
 use Rattle.order.proofs.Tests.{cond-cases, ltb-cases, eqb-cases}
 use Rattle.nodes.specs.Nodes.{nextAt}
 use Rattle.terms.specs.Terms.{small, soughtOf, highOf, tailKey, outOfBounds}
 use Rattle.terms.specs.declared.Size.{Size}
-use Rattle.terms.specs.declared.Counters.{Counters}
 use Rattle.terms.specs.declared.Op
 use Rattle.terms.specs.declared.Refusal.{Refusal}
 use Rattle.terms.specs.declared.Answer.{Answer}
@@ -32,17 +31,16 @@ use Rattle.register.specs.Register.{fits, keeps, badKey, began, startOf, stepOf
 use Rattle.sixteen.specs.declared.Call.{Call}
 use Rattle.sixteen.specs.Sixteen.{Left, served, with, afterStep, sessionOf}
 use Rattle.reached.specs.Reached.{State, stampOf, recordOf, stateIn, called, go, answer, Past, note, at, InWords}
-use Rattle.drawing.specs.Phases.{Op, upd, has, range, Phase, idle, walking, numbering}
+use Rattle.drawing.specs.Phases.{Op, upd, has, range, Phase, idle, walking}
 use Rattle.drawing.specs.Drawing.{change, Drawing, now}
-use Rattle.drawing.specs.Effects.{stays, after, begun}
-use Rattle.drawing.specs.Steps.{Fine, starts}
+use Rattle.drawing.specs.Effects.{stays, begun}
+use Rattle.drawing.specs.Steps.{Fine, Starts, starts}
 use Rattle.drawing.proofs.Change.{change-same, change-other}
 use Rattle.drawing.proofs.Keeps.{start-keeps}
-use Rattle.words.proofs.Show.{opWord, running, Runs, Cuts, HandedIn, Tells, Shown}
-use Rattle.words.proofs.Land.{noteOf, Busy, busy-record, fits-whole, Silent, refused, kept, kept-state}
+use Rattle.words.proofs.Show.{opWord, running, Runs, Cuts, HandedIn, Shown}
+use Rattle.words.proofs.Land.{noteOf, Busy, busy-record, fits-whole, refused, kept, kept-state}
 use Rattle.words.proofs.Land.{no-update, kept-past, unchanged, at-same, at-other, runs-at, handed-at}
-use Rattle.words.proofs.Land.{cuts-kept}
-use Rattle.words.proofs.Land.{NoNumber, no-number, busy-or-idle}
+use Rattle.words.proofs.Land.{cuts-kept, no-number, busy-or-idle}
 
 -- ---- what a start answers, whatever the words: started, or a refusal that is neither full nor damaged
 abbrev pub Early : Refusal → Type 0
@@ -121,6 +119,12 @@ module _ (key val : ℕ → ℕ) (low : key head ≡ 0) (high : key tail ≡ tai
   drawn (Op.Op.Range a b) bad order w w₂ = let c = key-bounds (Op.Op.Range a b) bad in
       (range a b, refl, (omega (arith, c .0 .0, low), order, omega (arith, c .1 .1, w₂, high)))
 
+-- ---- a start in the drawing: refused without effect, or the session begins its walk
+pub data Begun (key val : ℕ → ℕ) (t : ℕ) (op : Op.Op) (m m′ : Drawing) (a : Answer) : Type 0 where
+  not-begun : (why : Refusal) → m′ ≡ m → a ≡ Answer.Refused why → Begun key val t op m m′ a
+  has-begun : (d : Op) → opWord d ≡ op → Starts key val t m (walking d head (m .plain head))
+      → m′ ≡ begun empty m t (walking d head (m .plain head)) → Begun key val t op m m′ a
+
 -- nothing is handed out yet
 handed-walk : (d : Op) (p q : ℕ) → HandedIn (walking d p q) []
 handed-walk (upd u) p q = tt
@@ -134,6 +138,7 @@ module _ (key val : ℕ → ℕ) (σ : State) (h : Past) (m : Drawing) (S : Show
   abbrev Shows : Op.Op → Started → Type 0
   Shows op r = (m′ : Drawing)
       × Shown small key val (stateIn (leaves r)) (noteOf σ (Call.Start who op) h (leaves r)) m′
+      × Begun key val who op m m′ (r .answer)
 
   -- ---- refused
   refused-shows : (op : Op.Op) (why : Refusal) → Shows op (keeps (recordOf σ who) why)
@@ -143,6 +148,7 @@ module _ (key val : ℕ → ℕ) (σ : State) (h : Past) (m : Drawing) (S : Show
       kept-state σ who (Answer.Refused why),
       kept-past σ (Call.Start who op) h (Answer.Refused why) refused,
     ) S,
+    not-begun why refl refl,
   )
 
   -- ---- accepted: pred is the head, and curr its plain next
@@ -189,8 +195,8 @@ module _ (key val : ℕ → ℕ) (σ : State) (h : Past) (m : Drawing) (S : Show
         (λ k p x z c e. absurd (no-number idle (remove k) p x z c (sym quiet ∙ e) tt)) in
         record { cuts = C .cuts; once = C .once; in-use = C .in-use; cut = C .cut; count = C .count }
 
-    start-shows : (op : Op.Op) → Shows op start
-    start-shows op = (
+    start-shows : (op : Op.Op) → opWord d ≡ op → Shows op start
+    start-shows op e = (
       begun empty m who φ,
       record {
         inv = start-keeps key val empty m (S .inv) who (starts d quiet fine);
@@ -220,6 +226,7 @@ module _ (key val : ℕ → ℕ) (σ : State) (h : Past) (m : Drawing) (S : Show
           handed = start-handed;
         };
       },
+      has-begun d e (starts d quiet fine) refl,
     )
 
   -- a session whose record is not busy is idle
@@ -236,13 +243,18 @@ module _ (key val : ℕ → ℕ) (σ : State) (h : Past) (m : Drawing) (S : Show
       subst (λ o. Shows op (record {
         session = record { op = o; phase = Phase.Phase.Walk 0 (nextAt (σ .nodes) 0) };
         answer = Answer.Started;
-      })) (d .1) (start-shows low (phase-idle low calm) (d .0) (d .2) op))
+      })) (d .1) (start-shows low (phase-idle low calm) (d .0) (d .2) op (d .1)))
 
   -- ---- ANY START
+  pub start-begun : (op : Op.Op) → InWords (Call.Start who op) → (m′ : Drawing)
+      × Shown small key val (go small σ (Call.Start who op)) (note small σ (Call.Start who op) h) m′
+      × Begun key val who op m m′ (answer small σ (Call.Start who op))
+  start-begun op words = start-cases (Shows op) small (σ .nodes) (σ .entries) who (recordOf σ who) op
+      (λ why _. refused-shows op why) (began-shows op words)
+
   pub start-shown : (op : Op.Op) → InWords (Call.Start who op) → (m′ : Drawing)
       × Shown small key val (go small σ (Call.Start who op)) (note small σ (Call.Start who op) h) m′
-  start-shown op words = start-cases (Shows op) small (σ .nodes) (σ .entries) who (recordOf σ who) op
-      (λ why _. refused-shows op why) (began-shows op words)
+  start-shown op words = let d = start-begun op words in (d .0, d .1)
 
   -- ---- A STEP OF AN IDLE SESSION, OR OF NONE
   idle-record : who < 16 → m .phase who ≡ idle → busyOf (recordOf σ who) ≡ false
