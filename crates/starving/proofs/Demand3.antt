@@ -1,7 +1,7 @@
 -- DEMAND 3: no range query is starved; and the sharper bound.
--- In order: calls to a register with its drawing, at a query's start: fair while it is open; while it is open, or by its
--- end; the call that ends it; the sharper bound. Then that register, by key and value functions from the words at the
--- end of the calls; the demand, and the sharper bound.
+-- In order: calls to a register with its drawing, at a query's start: fair while it is open; while it is open, or by
+-- its end; the call that ends it; the sharper bound. Then that register, by key and value functions from the words
+-- at the end of the calls; the demand, and the sharper bound.
 -- Not here: the demand's sentences (crate reached). Assumes nothing.
 use Prim.Native.Nat.{ℕ, _+_, _*_, _≤_, _<_}
 use mathlib.Core.Path.{_≡_, refl, sym, _∙_, ap, subst}
