@@ -42,7 +42,7 @@ pub round-words : (k m : ℕ) → AllInWords (round k m)
 round-words k zero = tt
 round-words k (suc m) = (tt, round-words (suc k) m)
 
-abbrev Reaches : State → Type 0
+abbrev pub Reaches : State → Type 0
 Reaches σ = (h : Past) × Reached small σ h
 
 round-reaches : (k m : ℕ) (σ : State) → Reaches σ → Along (go small) Reaches σ (round k m)
@@ -120,11 +120,11 @@ unfolding opened-up
 in-turn-allowed = refl
 
 -- these registers are reached, so those calls are fair, and demand 3 tells of them
-begin-reached : Reached small begin noPast
+pub begin-reached : Reached small begin noPast
 unfolding freshOf fits
 begin-reached = fresh (replicate 3072 0) (replicate 8192 0) _ _ freshCounters refl
 
-calls-reach : (σ : State) → Reaches σ → (calls : List Call) → AllInWords calls → Reaches (after (go small) σ calls)
+pub calls-reach : (σ : State) → Reaches σ → (calls : List Call) → AllInWords calls → Reaches (after (go small) σ calls)
 calls-reach σ r [] words = r
 calls-reach σ r (c ∷ calls) words = calls-reach (go small σ c) (_, on (r .1) c (words .0)) calls (words .1)
 
