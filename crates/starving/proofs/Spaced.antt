@@ -50,16 +50,16 @@ module _ {State Call : Type 0} (go : State → Call → State) (who : State → 
     module _ (gap : ℕ) (σ : State) (c : Call) (row rest : List Call)
         (later : (g : ℕ) → spaced g (go σ c) (row ++ rest) ≡ true → w ≤ g + steps go who (go σ c) row → g < w
         → Takes go who i (go σ c) row) (many : w ≤ gap + (tell (who σ c) + steps go who (go σ c) row)) (less : gap < w)
-        where
-      front-takes : (o : Option ℕ) → who σ c ≡ o → gapBy (who σ c) gap < w
-          → spaced (gapBy (who σ c) gap) (go σ c) (row ++ rest) ≡ true → Takes go who i σ (c ∷ row)
-      front-takes none is few e = inr (later gap (rw is at e) (omega (arith, many, ap tell is)) less)
-      front-takes (some j) is few e = elim (ℕ-discrete j i) [
-        | yes j≡i ↦ inl (is ∙ ap some j≡i)
-        | no j≢i ↦
-            let gap′ : gapBy (who σ c) gap ≡ suc gap = rw (is, ne-eqb j i j≢i) refl in
-            inr (later (suc gap) (rw gap′ at e) (omega (arith, many, ap tell is)) (omega (arith, few, gap′)))
-      ]
+      where
+        front-takes : (o : Option ℕ) → who σ c ≡ o → gapBy (who σ c) gap < w
+            → spaced (gapBy (who σ c) gap) (go σ c) (row ++ rest) ≡ true → Takes go who i σ (c ∷ row)
+        front-takes none is few e = inr (later gap (rw is at e) (omega (arith, many, ap tell is)) less)
+        front-takes (some j) is few e = elim (ℕ-discrete j i) [
+          | yes j≡i ↦ inl (is ∙ ap some j≡i)
+          | no j≢i ↦
+              let gap′ : gapBy (who σ c) gap ≡ suc gap = rw (is, ne-eqb j i j≢i) refl in
+              inr (later (suc gap) (rw gap′ at e) (omega (arith, many, ap tell is)) (omega (arith, few, gap′)))
+        ]
 
     row-takes : (gap : ℕ) (σ : State) (row rest : List Call) → spaced gap σ (row ++ rest) ≡ true
         → Along go (λ x. Busy x i) σ row → w ≤ gap + steps go who σ row → gap < w → Takes go who i σ row

@@ -1,0 +1,86 @@
+-- Calls to a register that a computed test finds fair, for any window.
+-- In order: registers reached by some history, and after calls; calls whose keys are words; a test of each session;
+-- fair calls.
+-- Not here: the test of one session (Spaced). Assumes nothing.
+use Prim.Native.Nat.{ℕ, zero, suc, _<_}
+use mathlib.Core.Path.{_≡_, refl, _∙_, ap, subst}
+use mathlib.Core.Bool.{Bool, true, false, cond}
+use mathlib.Core.List.{List, [], _∷_, _++_}
+use native.Mathlib.Decide.{ℕ-discrete}
+use native.Mathlib.Omega.{arith}
+use lib.ListN.{replicate}
+use Rattle.nodes.specs.Nodes.{keyAt, valueAt}
+use Rattle.terms.specs.Terms.{small}
+use Rattle.steps.specs.Steps.{busyOf}
+use Rattle.sixteen.specs.declared.Call.{Call}
+use Rattle.reached.specs.Reached.{State, recordOf, go, Past, Reached, on}
+use Rattle.reached.specs.Fair.{whose, Busy, AllInWords}
+use Rattle.fairness.specs.Calls.{after, Fair}
+use Rattle.fairness.proofs.Along.{along-here}
+use Rattle.words.proofs.Whole.{reached-shown}
+use Rattle.starving.proofs.Words.{busy-drawn}
+use Rattle.starving.proofs.Spaced.{true-false, spaced, spaced-serves}
+
+-- ---- reached, by some history; and after calls
+abbrev pub Reaches : State → Type 0
+Reaches σ = (h : Past) × Reached small σ h
+
+pub calls-reach : (σ : State) → Reaches σ → (calls : List Call) → AllInWords calls → Reaches (after (go small) σ calls)
+calls-reach σ r [] words = r
+calls-reach σ r (c ∷ calls) words = calls-reach (go small σ c) (_, on (r .1) c (words .0)) calls (words .1)
+
+-- ---- calls whose keys are words
+pub words-append : (a b : List Call) → AllInWords a → AllInWords b → AllInWords (a ++ b)
+words-append [] b u v = v
+words-append (c ∷ a) b u v = (u .0, words-append a b (u .1) v)
+
+words-front : (a b : List Call) → AllInWords (a ++ b) → AllInWords a
+words-front [] b u = tt
+words-front (c ∷ a) b u = (u .0, words-front a b (u .1))
+
+pub step-words : (n t : ℕ) → AllInWords (replicate n (Call.Step t))
+step-words zero t = tt
+step-words (suc n) t = (tt, step-words n t)
+
+-- ---- a test of each session
+abbrev pub allBelow : ℕ → (ℕ → Bool) → Bool
+allBelow zero f = true
+allBelow (suc n) f = cond (f n) (allBelow n f) false
+
+last-all : (n : ℕ) (f : ℕ → Bool) → allBelow (suc n) f ≡ true → (b : Bool) → f n ≡ b
+    → (f n ≡ true) × (allBelow n f ≡ true)
+last-all n f e true is = (is, rw is at e)
+last-all n f e false is = true-false (rw is at e)
+
+below-all : (n : ℕ) (f : ℕ → Bool) → allBelow n f ≡ true → (i : ℕ) → i < n → f i ≡ true
+below-all zero f e i i<n = absurd (omega arith)
+below-all (suc n) f e i i<n =
+    let s = last-all n f e (f n) refl in
+    elim (ℕ-discrete i n) [
+      | yes i≡n ↦ ap f i≡n ∙ s .0
+      | no i≢n ↦ below-all n f (s .1) i (omega arith)
+    ]
+
+abbrev pub busyIn : State → ℕ → Bool
+busyIn σ i = busyOf (recordOf σ i)
+
+abbrev pub passesTest : (w : ℕ) → State → List Call → Bool
+passesTest w σ calls = allBelow 16 (λ i. spaced (go small) whose busyIn w i 0 σ calls)
+
+-- there is no session above 15
+no-other : (σ : State) → Reaches σ → (i : ℕ) → Busy σ i → i < 16
+no-other σ (h, r) i busy =
+    let S = reached-shown r (keyAt (σ .nodes)) (valueAt (σ .nodes))
+    (record { keyed = λ x _. refl; valued = λ x _. refl }) in
+    busy-drawn (keyAt (σ .nodes)) (valueAt (σ .nodes)) σ h (S .0) (S .1) i busy .0
+
+pub tested-fair : (w : ℕ) → 0 < w → (σ : State) → Reaches σ → (calls : List Call) → AllInWords calls
+    → passesTest w σ calls ≡ true → Fair (go small) whose Busy w σ calls
+tested-fair w some-w σ reached calls words passes before row rest whole many i throughout =
+    let τ = after (go small) σ before in
+    let words-before = words-front before (row ++ rest) (subst AllInWords whole words) in
+    let i<16 = no-other τ (calls-reach σ reached before words-before) i
+    (along-here (go small) (λ x. Busy x i) τ row throughout) in
+    spaced-serves (go small) whose busyIn w i some-w σ calls
+    (below-all 16 (λ j. spaced (go small) whose busyIn w j 0 σ calls) passes i i<16) before row rest whole many
+    throughout
