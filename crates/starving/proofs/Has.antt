@@ -22,7 +22,7 @@ use Rattle.sixteen.specs.declared.Call.{Call}
 use Rattle.reached.specs.Reached.{State, opOf, go, answer, Past, noPast, InWords, Reached, on}
 use Rattle.reached.specs.Fair.{whose, Busy, given, AllInWords}
 use Rattle.fairness.specs.Calls.{after, Along, steps, Fair}
-use Rattle.starving.proofs.Tested.{Reaches, calls-reach, words-append, step-words, passesTest, tested-fair}
+use Rattle.starving.proofs.Tested.{Reaches, calls-reach, all-wordly, passesTest, tested-fair}
 use Rattle.starving.proofs.Waits.{begin, begin-reached}
 
 -- ---- the bound that it would be: demand 3's sentence for has
@@ -52,22 +52,23 @@ locked = after (go small) begin first
 abbrev pub asked : State
 asked = go small locked (Call.Start 0 (Op.Has 9))
 
--- three steps of session 0 for each of session 1: at Number, Link and Finish
+-- the query waits three times before each of Number, Link and Finish
 abbrev pub threes : List Call
 threes = replicate 3 (Call.Step 0) ++ (Call.Step 1 ∷ (replicate 3 (Call.Step 0)
     ++ (Call.Step 1 ∷ replicate 3 (Call.Step 0))))
 
--- session 1 finds 5 absent, inserts it, and removes it again
+-- Finish; session 1 removes 5 again
 abbrev pub again : List Call
 again = Call.Step 1 ∷ Call.Start 1 (Op.Remove 5) ∷ Call.Step 1 ∷ Call.Step 1 ∷ Call.Step 0
     ∷ (replicate 3 (Call.Step 1) ++ threes)
 
+-- session 1 finds 5 absent, and inserts it
 abbrev pub calls : List Call
 calls = Call.Step 1 ∷ Call.Step 1 ∷ Call.Start 1 (Op.Insert 5 7) ∷ Call.Step 1 ∷ Call.Step 0
     ∷ (replicate 3 (Call.Step 1) ++ (threes ++ again))
 
 locked-reached : Reaches locked
-locked-reached = calls-reach begin (noPast, begin-reached) first ((omega arith, omega arith), (tt, (tt, tt)))
+locked-reached = calls-reach begin (noPast, begin-reached) first (all-wordly first refl)
 
 has-started : answer small locked (Call.Start 0 (Op.Has 9)) ≡ Answer.Started
 unfolding opened-up
@@ -76,54 +77,13 @@ has-started = refl
 asked-reached : Reaches asked
 asked-reached = (_, on (locked-reached .1) (Call.Start 0 (Op.Has 9)) (omega arith, omega arith))
 
--- ---- its calls' keys are words
-threes-words : AllInWords threes
-threes-words = (tt, (tt, (tt, (tt, (tt, (tt, (tt, (tt, step-words 3 0))))))))
-
-again-words : AllInWords again
-again-words = (
-  tt,
-  (
-    (omega arith, omega arith),
-    (
-      tt,
-      (
-        tt,
-        (
-          tt,
-          words-append (replicate 3 (Call.Step 1)) threes (step-words 3 1) threes-words,
-        ),
-      ),
-    ),
-  ),
-)
-
-calls-words : AllInWords calls
-calls-words = (
-  tt,
-  (
-    tt,
-    (
-      (omega arith, omega arith),
-      (
-        tt,
-        (
-          tt,
-          words-append (replicate 3 (Call.Step 1)) (threes ++ again) (step-words 3 1)
-              (words-append threes again threes-words again-words),
-        ),
-      ),
-    ),
-  ),
-)
-
 -- ---- IT IS FAIR FOR FOUR
 passes : passesTest 4 asked calls ≡ true
 unfolding opened-up
 passes = refl
 
 pub four-fair : Fair (go small) whose Busy 4 asked calls
-four-fair = tested-fair 4 (omega arith) asked asked-reached calls calls-words passes
+four-fair = tested-fair 4 (omega arith) asked asked-reached calls (all-wordly calls refl) passes
 
 -- ---- the query is open all along
 abbrev ops : State → List Call → List Op
@@ -152,10 +112,7 @@ unfolding opened-up
 one-node = refl
 
 pub has-unbounded : ¬ HasBound
-has-unbounded bound = omega (
-  arith,
-  bound locked (locked-reached .0) (locked-reached .1) 0 9 (omega arith, omega arith) has-started 4 calls calls-words
-      still-open four-fair,
-  counted-36,
-  one-node,
-)
+has-unbounded bound =
+    let few = bound locked (locked-reached .0) (locked-reached .1) 0 9 (omega arith, omega arith) has-started 4 calls
+    (all-wordly calls refl) still-open four-fair in
+    omega (arith, few, counted-36, one-node)

@@ -8,9 +8,10 @@ use mathlib.Core.Bool.{Bool, true, false, cond}
 use mathlib.Core.List.{List, [], _∷_, _++_}
 use native.Mathlib.Decide.{ℕ-discrete}
 use native.Mathlib.Omega.{arith}
-use lib.ListN.{replicate}
+use lib.Dec.{leb}
+use borrow.Author.Tests.{leb-true}
 use Rattle.nodes.specs.Nodes.{keyAt, valueAt}
-use Rattle.terms.specs.Terms.{small}
+use Rattle.terms.specs.Terms.{small, soughtOf, highOf, tailKey}
 use Rattle.steps.specs.Steps.{busyOf}
 use Rattle.sixteen.specs.declared.Call.{Call}
 use Rattle.reached.specs.Reached.{State, recordOf, go, Past, Reached, on}
@@ -30,17 +31,28 @@ calls-reach σ r [] words = r
 calls-reach σ r (c ∷ calls) words = calls-reach (go small σ c) (_, on (r .1) c (words .0)) calls (words .1)
 
 -- ---- calls whose keys are words
-pub words-append : (a b : List Call) → AllInWords a → AllInWords b → AllInWords (a ++ b)
-words-append [] b u v = v
-words-append (c ∷ a) b u v = (u .0, words-append a b (u .1) v)
-
 words-front : (a b : List Call) → AllInWords (a ++ b) → AllInWords a
 words-front [] b u = tt
 words-front (c ∷ a) b u = (u .0, words-front a b (u .1))
 
-pub step-words : (n t : ℕ) → AllInWords (replicate n (Call.Step t))
-step-words zero t = tt
-step-words (suc n) t = (tt, step-words n t)
+-- by a test
+abbrev pub wordly : List Call → Bool
+wordly [] = true
+wordly (Call.Start who op ∷ calls) =
+    cond (leb (soughtOf op) tailKey) (cond (leb (highOf op) tailKey) (wordly calls) false) false
+wordly (Call.Step who ∷ calls) = wordly calls
+
+both-true : (a b : Bool) → cond a b false ≡ true → (a ≡ true) × (b ≡ true)
+both-true true b e = (refl, e)
+both-true false b e = true-false e
+
+pub all-wordly : (calls : List Call) → wordly calls ≡ true → AllInWords calls
+all-wordly [] e = tt
+all-wordly (Call.Start who op ∷ calls) e =
+    let s = both-true (leb (soughtOf op) tailKey) _ e in
+    let h = both-true (leb (highOf op) tailKey) (wordly calls) (s .1) in
+    ((leb-true (soughtOf op) tailKey (s .0), leb-true (highOf op) tailKey (h .0)), all-wordly calls (h .1))
+all-wordly (Call.Step who ∷ calls) e = (tt, all-wordly calls e)
 
 -- ---- a test of each session
 abbrev pub allBelow : ℕ → (ℕ → Bool) → Bool

@@ -26,7 +26,7 @@ use Rattle.reached.specs.Fair.{whose, Busy, Open, given, AllInWords, FairFor, I
 use Rattle.fairness.specs.Calls.{after, steps}
 use Rattle.fairness.proofs.Ended.{fair-while}
 use Rattle.starving.proofs.Demand3.{demand-3}
-use Rattle.starving.proofs.Tested.{Reaches, calls-reach, step-words, passesTest, tested-fair}
+use Rattle.starving.proofs.Tested.{Reaches, calls-reach, all-wordly, passesTest, tested-fair}
 use Rattle.starving.proofs.Possible.{round, premise, served-in-turn}
 
 -- ---- every definition that a call of the examples computes with
@@ -45,8 +45,11 @@ begin = record {
   register = freshRegister freshCounters;
 }
 
+abbrev pub preparing : List Call
+preparing = Call.Start 0 (Op.Insert 20 7) ∷ replicate 4 (Call.Step 0)
+
 abbrev pub prepared : State
-prepared = after (go small) begin (Call.Start 0 (Op.Insert 20 7) ∷ replicate 4 (Call.Step 0))
+prepared = after (go small) begin preparing
 
 abbrev pub asked : State
 asked = go small prepared (Call.Start 1 (Op.Range 1 100))
@@ -75,9 +78,7 @@ unfolding freshOf fits
 begin-reached = fresh (replicate 3072 0) (replicate 8192 0) _ _ freshCounters refl
 
 prepared-reached : Reaches prepared
-prepared-reached = calls-reach begin (noPast, begin-reached)
-    (Call.Start 0 (Op.Insert 20 7) ∷ replicate 4 (Call.Step 0))
-    ((omega arith, omega arith), (tt, (tt, (tt, (tt, tt)))))
+prepared-reached = calls-reach begin (noPast, begin-reached) preparing (all-wordly preparing refl)
 
 asked-started : answer small prepared (Call.Start 1 (Op.Range 1 100)) ≡ Answer.Started
 unfolding opened-up
@@ -92,8 +93,8 @@ in-turn-in-time =
 
 -- ---- document 01's whole case: up to its second range, and the eight lines behind it
 abbrev pub lines : List Call
-lines = Call.Start 0 (Op.Insert 20 7) ∷ (replicate 4 (Call.Step 0)
-    ++ (Call.Start 1 (Op.Range 1 100) ∷ (replicate 3 (Call.Step 1) ++ (Call.Step 0 ∷ []))))
+lines = preparing
+    ++ (Call.Start 1 (Op.Range 1 100) ∷ (replicate 3 (Call.Step 1) ++ (Call.Step 0 ∷ [])))
 
 abbrev pub halfway : State
 halfway = after (go small) begin lines
@@ -124,17 +125,14 @@ unfolding opened-up
 whole-case-allowed = refl
 
 halfway-reached : Reaches halfway
-halfway-reached = calls-reach begin (noPast, begin-reached) lines (
-  (omega arith, omega arith),
-  (tt, (tt, (tt, (tt, ((omega arith, omega arith), (tt, (tt, (tt, (tt, tt))))))))),
-)
+halfway-reached = calls-reach begin (noPast, begin-reached) lines (all-wordly lines refl)
 
 again-started : answer small halfway (Call.Start 1 (Op.Range 1 100)) ≡ Answer.Started
 unfolding opened-up
 again-started = refl
 
 rest-words : AllInWords rest
-rest-words = (tt, (tt, (tt, (tt, (tt, step-words 3 1)))))
+rest-words = all-wordly rest refl
 
 rest-passes : passesTest 4 asked-again rest ≡ true
 unfolding opened-up
