@@ -8,22 +8,15 @@ use mathlib.Core.Bool.{true}
 use mathlib.Core.List.{List, [], _∷_, _++_}
 use native.Mathlib.Omega.{arith}
 use lib.ListN.{length, replicate}
-use Rattle.table.specs.Table.{wordOf, storeOf}
-use Rattle.bundle.specs.Bundle.{lookOf, scanOf, holdsUp, atOf, newestOf, heldOf, layOf, finishOf}
-use Rattle.nodes.specs.Nodes.{namedNode, clearNode}
-use Rattle.terms.specs.Terms.{small, outOfBounds}
+use Rattle.terms.specs.Terms.{small}
 use Rattle.terms.specs.declared.Op.{Op}
 use Rattle.terms.specs.declared.Answer.{Answer}
-use Rattle.steps.specs.Steps.{walkStep, free, lockStep, insertMeets, insertCheck, linkedOf, removeCheck}
-use Rattle.steps.specs.Steps.{checkStep, layIn, insertLaid, removeLaid, insertRoom, removeRoom, heldAt, prepareStep}
-use Rattle.steps.specs.Steps.{numberStep, insertLink, removeLink, linkStep, usable, finishStep, hasSees, newestStep}
-use Rattle.register.specs.Register.{fits, freshNodes, freshEntries, freshOf, badKey, began, startOf, stepOf}
 use Rattle.sixteen.specs.declared.Call.{Call}
 use Rattle.reached.specs.Reached.{State, opOf, go, answer, Past, noPast, InWords, Reached, on}
 use Rattle.reached.specs.Fair.{whose, Busy, given, AllInWords}
 use Rattle.fairness.specs.Calls.{after, Along, steps, Fair}
 use Rattle.starving.proofs.Tested.{Reaches, calls-reach, all-wordly, passesTest, tested-fair}
-use Rattle.starving.proofs.Waits.{begin, begin-reached}
+use Rattle.starving.proofs.Waits.{opened-up, begin, begin-reached}
 
 -- ---- the bound that it would be: demand 3's sentence for has
 abbrev pub HasBound : Type 0
@@ -33,14 +26,6 @@ HasBound = (σ : State) (h : Past) → Reached small σ h → (q k : ℕ) → In
     → Fair (go small) whose Busy w (go small σ (Call.Start q (Op.Has k))) calls
     → steps (go small) whose (go small σ (Call.Start q (Op.Has k))) calls
     < w * (3 * given (after (go small) (go small σ (Call.Start q (Op.Has k))) calls) + 6)
-
--- ---- every definition that a call of the run computes with
-opened-up : ℕ
-unfolding wordOf storeOf lookOf scanOf holdsUp atOf newestOf heldOf layOf finishOf namedNode clearNode outOfBounds
-    walkStep free lockStep insertMeets insertCheck linkedOf removeCheck checkStep layIn insertLaid removeLaid
-    insertRoom removeRoom heldAt prepareStep numberStep insertLink removeLink linkStep usable finishStep hasSees
-    newestStep fits freshNodes freshEntries freshOf badKey began startOf stepOf
-opened-up = 0
 
 -- ---- the run: session 1 removes 5 in the empty set and holds the head's lock; then session 0 asks for 9
 abbrev pub first : List Call

@@ -14,9 +14,10 @@ use Rattle.nodes.specs.Nodes.{namedNode, clearNode}
 use Rattle.terms.specs.Terms.{small, outOfBounds}
 use Rattle.terms.specs.declared.Op.{Op}
 use Rattle.terms.specs.declared.Answer.{Answer}
-use Rattle.steps.specs.Steps.{walkStep, free, lockStep, insertMeets, insertCheck, checkStep, layIn, insertLaid}
-use Rattle.steps.specs.Steps.{insertRoom, heldAt, prepareStep, numberStep, insertLink, linkStep, usable, finishStep}
-use Rattle.steps.specs.Steps.{rangeSees, followStep, handStep}
+use Rattle.steps.specs.Steps.{walkStep, free, lockStep, insertMeets, insertCheck, linkedOf, removeCheck, checkStep}
+use Rattle.steps.specs.Steps.{layIn, insertLaid, removeLaid, insertRoom, removeRoom, heldAt, prepareStep, numberStep}
+use Rattle.steps.specs.Steps.{insertLink, removeLink, linkStep, usable, finishStep, hasSees, newestStep, rangeSees}
+use Rattle.steps.specs.Steps.{followStep, handStep}
 use Rattle.register.specs.Register.{fits, freshNodes, freshEntries, freshCounters, freshOf, badKey, began, startOf}
 use Rattle.register.specs.Register.{stepOf}
 use Rattle.sixteen.specs.Sixteen.{freshRegister}
@@ -29,12 +30,12 @@ use Rattle.starving.proofs.Demand3.{demand-3}
 use Rattle.starving.proofs.Tested.{Reaches, calls-reach, all-wordly, passesTest, tested-fair}
 use Rattle.starving.proofs.Possible.{round, premise, served-in-turn}
 
--- ---- every definition that a call of the examples computes with
-opened-up : ℕ
+-- ---- every definition that a call computes with
+unfoldable pub opened-up : ℕ
 unfolding wordOf storeOf lookOf scanOf holdsUp atOf newestOf heldOf layOf finishOf namedNode clearNode outOfBounds
-    walkStep free lockStep insertMeets insertCheck checkStep layIn insertLaid insertRoom heldAt prepareStep
-    numberStep insertLink linkStep usable finishStep rangeSees followStep handStep fits freshNodes freshEntries
-    freshOf badKey began startOf stepOf
+    walkStep free lockStep insertMeets insertCheck linkedOf removeCheck checkStep layIn insertLaid removeLaid
+    insertRoom removeRoom heldAt prepareStep numberStep insertLink removeLink linkStep usable finishStep hasSees
+    newestStep rangeSees followStep handStep fits freshNodes freshEntries freshOf badKey began startOf stepOf
 opened-up = 0
 
 -- ---- session 0 inserts 20 = 7 and has prepared; then session 1 starts a range
