@@ -72,7 +72,7 @@ module _ {Call : Type 0} (step : ℕ → Call) (n : ℕ) where
         let z : suc k + d ≡ k + suc d = omega arith in
         inr (turn-taken i d (suc k) m (go σ (step (k % n))) (omega arith) (ap (λ x. x % n) z ∙ e) (b .1) (c .1))
 
-    row-taken : (w k m : ℕ) (σ : State) → n ≤ w → w ≤ m → (i : ℕ)
+    pub row-taken : (w k m : ℕ) (σ : State) → n ≤ w → w ≤ m → (i : ℕ)
         → Along go (λ x. Busy x i) σ (robin step n k m) → Along go (Counts step n who Busy) σ (robin step n k m)
         → Takes go who i σ (robin step n k m)
     row-taken w k m σ n≤w w≤m i b c =

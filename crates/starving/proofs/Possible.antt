@@ -33,13 +33,13 @@ pub round-words : (k m : ℕ) → AllInWords (round k m)
 round-words k zero = tt
 round-words k (suc m) = (tt, round-words (suc k) m)
 
-round-reaches : (k m : ℕ) (σ : State) → Reaches σ → Along (go small) Reaches σ (round k m)
+pub round-reaches : (k m : ℕ) (σ : State) → Reaches σ → Along (go small) Reaches σ (round k m)
 round-reaches k zero σ r = r
 round-reaches k (suc m) σ r =
     (r, round-reaches (suc k) m (go small σ (Call.Step (k % 16))) (_, on (r .1) (Call.Step (k % 16)) tt))
 
 -- a busy session of a reached register is one of sixteen, and its step is counted
-reached-counts : (σ : State) → Reaches σ → Counts Call.Step 16 whose Busy σ
+pub reached-counts : (σ : State) → Reaches σ → Counts Call.Step 16 whose Busy σ
 reached-counts σ (h, r) i busy =
     let τ = go small σ (Call.Step i) in
     let key = keyAt (τ .nodes) in
