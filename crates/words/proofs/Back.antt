@@ -4,7 +4,7 @@
 -- Not here: what the words show. Assumes nothing.
 use Prim.Native.Nat.{ℕ, _+_, _≤_, _<_}
 use mathlib.Core.Path.{_≡_, refl, sym, _∙_, ap}
-use mathlib.Core.Logic.{_⊎_, inl, inr, _≢_}
+use mathlib.Core.Logic.{_⊎_, inl, inr}
 use mathlib.Core.Bool.{Bool, true, false, cond, _&&_, _||_}
 use mathlib.Core.List.{List}
 use native.Mathlib.Omega.{arith}
@@ -14,25 +14,24 @@ use Rattle.order.proofs.Tests.{cond-cases}
 use Rattle.bundle.specs.Bundle.{atOf, newestOf}
 use Rattle.bundle.specs.declared.Read.{Read}
 use Rattle.bundle.specs.declared.Held.{Held}
-use Rattle.nodes.specs.Nodes.{nodeAt, putNode, keyAt, valueAt, nextAt, lockAt, removedAt, newestAt, unlocked}
-use Rattle.nodes.specs.Nodes.{unlockedBoth}
+use Rattle.nodes.specs.Nodes.{nodeAt, putNode, keyAt, nextAt, lockAt, removedAt, newestAt, unlocked, unlockedBoth}
 use Rattle.nodes.specs.Nodes.{namedNode, clearNode, newNode}
-use Rattle.terms.specs.Terms.{small, soughtOf, highOf, valueOf, removesOf}
+use Rattle.terms.specs.Terms.{soughtOf, highOf, valueOf, removesOf}
 use Rattle.terms.specs.declared.Size.{Size}
 use Rattle.terms.specs.declared.Counters.{Counters}
 use Rattle.terms.specs.declared.Op.{Op}
 use Rattle.steps.specs.declared.Phase.{Phase}
 use Rattle.steps.specs.declared.Session.{Session}
 use Rattle.steps.specs.declared.Stepped.{Stepped}
-use Rattle.steps.specs.Steps.{Done, done, Moved, moved, over, Tables, tables, actStep, busyOf}
+use Rattle.steps.specs.Steps.{Done, done, Moved, moved, over, actStep, busyOf}
 use Rattle.steps.specs.Steps.{walkStep, lockStep, insertMeets, insertCheck, removeCheck, checkStep, layIn, insertLaid}
 use Rattle.steps.specs.Steps.{removeLaid, insertRoom, removeRoom, heldAt, heldEither, onHeld, prepareStep, numberStep}
 use Rattle.steps.specs.Steps.{insertLink, removeLink, linkStep, finishStep, hasSees, onRead, newestStep, rangeSees}
-use Rattle.steps.specs.Steps.{followStep, handStep, lockedOf, counted, free, linkedOf, usable}
+use Rattle.steps.specs.Steps.{followStep, handStep, lockedOf, free, linkedOf, usable}
 use Rattle.register.specs.Register.{fits, stepOf}
 use Rattle.sixteen.specs.declared.Call.{Call}
-use Rattle.sixteen.specs.Sixteen.{Left, served, afterStep, sessionOf}
-use Rattle.reached.specs.Reached.{State, recordOf, stateIn, called, go}
+use Rattle.sixteen.specs.Sixteen.{afterStep}
+use Rattle.reached.specs.Reached.{State, recordOf, stateIn, go}
 use Rattle.words.proofs.Show.{Agrees}
 use Rattle.words.proofs.Land.{usedOf}
 
@@ -101,10 +100,13 @@ either : {A : Type 0} (P : A → Type 0) (t : Bool) (a b : A) → P a → P b �
 either P t a b f g = cond-cases P t a b (λ _. f) (λ _. g)
 
 module _ (z : Size) (ns : List ℕ) (c : Counters) where
+  abbrev U : Stepped → Type 0
+  U = Up c
+
   abbrev M : Moved → Type 0
   M = KeepsMoved c ns
 
-  same-up : (r : Stepped) → r .counters ≡ c → Up c r
+  same-up : (r : Stepped) → r .counters ≡ c → U r
   same-up r e = record { up = omega (arith, ap (λ d. d .nodes) e) }
 
   keeps : (ns′ : List ℕ) (r : Stepped) → r .counters ≡ c → Kept (c .nodes) ns ns′ → M (moved ns′ r)
@@ -121,32 +123,41 @@ module _ (z : Size) (ns : List ℕ) (c : Counters) where
 
   walk-keeps : (op : Op) (p q : ℕ) → Up c (walkStep z ns c op p q)
   unfolding walkStep
-  walk-keeps op p q = either (Up c) (ltb q (z .nodes)) _ _ (either (Up c) (ltb (keyAt ns q) (soughtOf op)) _ _
-      (same-up _ refl) (same-up _ refl)) (same-up _ refl)
+  walk-keeps op p q =
+      either U (ltb q (z .nodes)) _ _
+      (either U (ltb (keyAt ns q) (soughtOf op)) _ _ (same-up _ refl) (same-up _ refl))
+      (same-up _ refl)
 
   lock-keeps : (t : ℕ) (op : Op) (n : ℕ) (here then : Phase) → M (lockStep z ns c t op n here then)
   unfolding lockStep
-  lock-keeps t op n here then = either M (ltb n (z .nodes)) _ _ (either M (free t (lockAt ns n)) _ _
-      (keeps (putNode ns n 3 (t + 1)) _ refl
+  lock-keeps t op n here then =
+      either M (ltb n (z .nodes)) _ _
+      (either M (free t (lockAt ns n)) _ _ (keeps (putNode ns n 3 (t + 1)) _ refl
       (put-kept (c .nodes) ns ns n 3 (t + 1) (omega arith) (inr (omega arith)) (same-kept (c .nodes) ns)))
-      (still _ refl)) (still _ refl)
+      (still _ refl))
+      (still _ refl)
 
   meets-keeps : (op : Op) (p q : ℕ) → M (insertMeets z ns c op p q)
   unfolding insertMeets
-  meets-keeps op p q = either M (ltb q (z .nodes)) _ _ (either M (eqb (keyAt ns q) (soughtOf op)) _ _ (unlocks p _
-      refl) (still _ refl)) (still _ refl)
+  meets-keeps op p q =
+      either M (ltb q (z .nodes)) _ _
+      (either M (eqb (keyAt ns q) (soughtOf op)) _ _ (unlocks p _ refl) (still _ refl))
+      (still _ refl)
 
   insert-check-keeps : (op : Op) (p q : ℕ) → M (insertCheck z ns c op p q)
   unfolding insertCheck
   insert-check-keeps op p q =
-      either M (ltb p (z .nodes)) _ _ (either M (eqb (removedAt ns p) 0 && eqb (nextAt ns p) q) _ _ (meets-keeps op p
-      q) (unlocks p _ refl)) (still _ refl)
+      either M (ltb p (z .nodes)) _ _
+      (either M (eqb (removedAt ns p) 0 && eqb (nextAt ns p) q) _ _ (meets-keeps op p q) (unlocks p _ refl))
+      (still _ refl)
 
   remove-check-keeps : (op : Op) (p q : ℕ) → M (removeCheck z ns c op p q)
   unfolding removeCheck
-  remove-check-keeps op p q = either M (ltb p (z .nodes) && ltb q (z .nodes)) _ _ (either M (linkedOf ns p q) _ _
-      (either M (eqb (keyAt ns q) (soughtOf op)) _ _ (still _ refl) (leaves p q _ refl))
-      (leaves p q _ refl)) (still _ refl)
+  remove-check-keeps op p q =
+      either M (ltb p (z .nodes) && ltb q (z .nodes)) _ _
+      (either M (linkedOf ns p q) _ _
+      (either M (eqb (keyAt ns q) (soughtOf op)) _ _ (still _ refl) (leaves p q _ refl)) (leaves p q _ refl))
+      (still _ refl)
 
   check-keeps : (op : Op) (p q : ℕ) → M (checkStep z ns c op p q)
   unfolding checkStep
@@ -154,8 +165,8 @@ module _ (z : Size) (ns : List ℕ) (c : Counters) where
 
   number-keeps : (op : Op) (p y lo hi : ℕ) → Up c (numberStep z c op p y lo hi)
   unfolding numberStep
-  number-keeps op p y lo hi = either (Up c) (ltb (c .stamp) (z .updates)) _ _ (record { up = omega arith }) (same-up
-      _ refl)
+  number-keeps op p y lo hi =
+      either U (ltb (c .stamp) (z .updates)) _ _ (record { up = omega arith }) (same-up _ refl)
 
   insert-link-keeps : (op : Op) (p y lo hi n : ℕ) → M (insertLink z ns c op p y lo hi n)
   unfolding insertLink
@@ -184,32 +195,37 @@ module _ (z : Size) (ns : List ℕ) (c : Counters) where
 
   has-keeps : (op : Op) (x to : ℕ) → Up c (hasSees z ns c op x to)
   unfolding hasSees
-  has-keeps op x to = either (Up c) (ltb to (z .nodes)) _ _ (either (Up c) (ltb (keyAt ns to) (soughtOf op)) _ _
+  has-keeps op x to =
+      either U (ltb to (z .nodes)) _ _
+      (either U (ltb (keyAt ns to) (soughtOf op)) _ _ (same-up _ refl)
+      (either U (eqb (keyAt ns to) (soughtOf op)) _ _ (same-up _ refl) (same-up _ refl)))
       (same-up _ refl)
-      (either (Up c) (eqb (keyAt ns to) (soughtOf op)) _ _ (same-up _ refl) (same-up _ refl))) (same-up _ refl)
 
   newest-keeps : (es : List ℕ) (op : Op) (x : ℕ) → Up c (newestStep z ns es c op x)
   unfolding newestStep
-  newest-keeps es op x = either (Up c) (ltb x (z .nodes)) _ _
-      (read-keeps op (Phase.Newest x) (newestOf (z .entries) es (newestAt ns x)) (hasSees z ns c op x) (has-keeps op
-      x))
+  newest-keeps es op x =
+      either U (ltb x (z .nodes)) _ _
+      (read-keeps op (Phase.Newest x) (newestOf (z .entries) es (newestAt ns x)) _ (has-keeps op x))
       (same-up _ refl)
 
   range-keeps : (op : Op) (x s n to : ℕ) → Up c (rangeSees z ns c op x s n to)
   unfolding rangeSees
-  range-keeps op x s n to = either (Up c) (ltb to (z .nodes)) _ _ (either (Up c) (ltb (keyAt ns to) (soughtOf op)) _
-      _ (same-up _ refl)
-      (either (Up c) (leb (keyAt ns to) (highOf op)) _ _ (same-up _ refl) (same-up _ refl))) (same-up _ refl)
+  range-keeps op x s n to =
+      either U (ltb to (z .nodes)) _ _
+      (either U (ltb (keyAt ns to) (soughtOf op)) _ _ (same-up _ refl)
+      (either U (leb (keyAt ns to) (highOf op)) _ _ (same-up _ refl) (same-up _ refl)))
+      (same-up _ refl)
 
   follow-keeps : (es : List ℕ) (op : Op) (x s n : ℕ) → Up c (followStep z ns es c op x s n)
   unfolding followStep
-  follow-keeps es op x s n = either (Up c) (ltb x (z .nodes)) _ _
-      (read-keeps op (Phase.Follow x s n) (atOf (z .entries) es (newestAt ns x) s) (rangeSees z ns c op x s n)
-      (range-keeps op x s n)) (same-up _ refl)
+  follow-keeps es op x s n =
+      either U (ltb x (z .nodes)) _ _
+      (read-keeps op (Phase.Follow x s n) (atOf (z .entries) es (newestAt ns x) s) _ (range-keeps op x s n))
+      (same-up _ refl)
 
   hand-keeps : (op : Op) (x s n : ℕ) → Up c (handStep z ns c op x s n)
   unfolding handStep
-  hand-keeps op x s n = either (Up c) (ltb x (z .nodes) && ltb n (z .keys)) _ _ (same-up _ refl) (same-up _ refl)
+  hand-keeps op x s n = either U (ltb x (z .nodes) && ltb n (z .keys)) _ _ (same-up _ refl) (same-up _ refl)
 
 module _ (z : Size) (ns es : List ℕ) (c : Counters) where
   abbrev D : Done → Type 0
@@ -221,6 +237,9 @@ module _ (z : Size) (ns es : List ℕ) (c : Counters) where
 
   stays : (r : Stepped) → Up c r → D (done ns es r)
   stays r u = keeps-both ns es r (u .up) (same-kept (c .nodes) ns)
+
+  as-was : (r : Stepped) → r .counters ≡ c → D (done ns es r)
+  as-was r e = stays r (same-up z ns c r e)
 
   -- Prepare and Finish
   insert-laid : (op : Op) (p q : ℕ) → Kept (c .nodes) ns (putNode (putNode (newNode ns (c .nodes) (soughtOf op)
@@ -235,24 +254,23 @@ module _ (z : Size) (ns es : List ℕ) (c : Counters) where
 
   insert-room-keeps : (op : Op) (p q : ℕ) → D (insertRoom z ns es c op p q)
   unfolding insertRoom insertLaid layIn
-  insert-room-keeps op p q = either D (ltb (z .nodes) (c .nodes)) _ _ (stays _ (same-up z ns c _ refl)) (either D
-      (eqb (c .nodes) (z .nodes)) _ _
+  insert-room-keeps op p q =
+      either D (ltb (z .nodes) (c .nodes)) _ _ (as-was _ refl)
+      (either D (eqb (c .nodes) (z .nodes)) _ _
       (keeps-both (unlocked ns p) es _ (omega arith) (unlock-kept (c .nodes) ns p))
-      (either D (ltb (z .entries) (c .entries + 2)) _ _ (stays _ (same-up z ns c _ refl)) (record {
-        up = omega arith;
-        kept = insert-laid op p q;
-      })))
+      (either D (ltb (z .entries) (c .entries + 2)) _ _ (as-was _ refl)
+      (keeps-both _ _ _ (omega arith) (insert-laid op p q))))
 
   remove-room-keeps : (op : Op) (p q : ℕ) → D (removeRoom z ns es c op p q)
   unfolding removeRoom removeLaid layIn
-  remove-room-keeps op p q = either D (ltb (z .nodes) (c .nodes) || ltb (z .entries) (c .entries + 2)) _ _ (stays _
-      (same-up z ns c _ refl))
-      (record { up = omega arith; kept = remove-laid p q })
+  remove-room-keeps op p q =
+      either D (ltb (z .nodes) (c .nodes) || ltb (z .entries) (c .entries + 2)) _ _ (as-was _ refl)
+      (keeps-both _ _ _ (omega arith) (remove-laid p q))
 
   held-keeps : (op : Op) (here : Phase) (held : Held) (next : Done) → D next → D (onHeld ns es c op here held next)
   held-keeps op here Held.Free next k = k
-  held-keeps op here Held.Wait next k = stays _ (same-up z ns c _ refl)
-  held-keeps op here Held.Damaged next k = stays _ (same-up z ns c _ refl)
+  held-keeps op here Held.Wait next k = as-was _ refl
+  held-keeps op here Held.Damaged next k = as-was _ refl
 
   prepare-keeps : (op : Op) (p q : ℕ) → D (prepareStep z ns es c op p q)
   unfolding prepareStep
@@ -263,11 +281,11 @@ module _ (z : Size) (ns es : List ℕ) (c : Counters) where
   finish-keeps : (op : Op) (p y lo hi n : ℕ) → D (finishStep z ns es c op p y lo hi n)
   unfolding finishStep
   finish-keeps op p y lo hi n = either D (usable z op p y lo hi) _ _
-      (keeps-both _ _ _ (omega arith) (both-kept (c .nodes) ns p y (removesOf op))) (stays _ (same-up z ns c _ refl))
+      (keeps-both _ _ _ (omega arith) (both-kept (c .nodes) ns p y (removesOf op))) (as-was _ refl)
 
   -- ---- any step, and any call
   act-keeps : (t : ℕ) (op : Op) (ph : Phase) → D (actStep z ns es c t op ph)
-  act-keeps t op Phase.Idle = stays _ (same-up z ns c _ refl)
+  act-keeps t op Phase.Idle = as-was _ refl
   act-keeps t op (Phase.Walk p q) = stays _ (walk-keeps z ns c op p q)
   act-keeps t op (Phase.Lock p q) =
       over-keeps c ns es _ (lock-keeps z ns c t op p (Phase.Lock p q) (lockedOf op p q))
@@ -279,15 +297,17 @@ module _ (z : Size) (ns es : List ℕ) (c : Counters) where
   act-keeps t op (Phase.Link p y lo hi n) = over-keeps c ns es _ (link-keeps z ns c op p y lo hi n)
   act-keeps t op (Phase.Finish p y lo hi n) = finish-keeps op p y lo hi n
   act-keeps t op (Phase.Newest x) = stays _ (newest-keeps z ns c es op x)
-  act-keeps t op (Phase.Fix p) = stays _ (same-up z ns c _ refl)
+  act-keeps t op (Phase.Fix p) = as-was _ refl
   act-keeps t op (Phase.Follow x s n) = stays _ (follow-keeps z ns c es op x s n)
   act-keeps t op (Phase.Hand x s n) = stays _ (hand-keeps z ns c op x s n)
 
   step-keeps : (t : ℕ) (s : Session) → D (stepOf z ns es c t s)
   unfolding stepOf
-  step-keeps t s = either D (fits z ns es) _ _ (either D (ltb t 16) _ _ (either D (busyOf s) _ _ (act-keeps t (s .op)
-      (s .phase))
-      (stays _ (same-up z ns c _ refl))) (stays _ (same-up z ns c _ refl))) (stays _ (same-up z ns c _ refl))
+  step-keeps t s =
+      either D (fits z ns es) _ _
+      (either D (ltb t 16) _ _
+      (either D (busyOf s) _ _ (act-keeps t (s .op) (s .phase)) (as-was _ refl)) (as-was _ refl))
+      (as-was _ refl)
 
 abbrev KeepsState : State → State → Type 0
 KeepsState σ τ = (usedOf σ ≤ usedOf τ) × Kept (usedOf σ) (σ .nodes) (τ .nodes)

@@ -1,7 +1,6 @@
 -- The nodes whose remove is laid, after Prepare: none more after an insert's, one more after a remove's.
 -- In order: a node more; a cut more; the node that a remove is about to cut is not cut yet, and is no end of the
--- list.
--- Assumes nothing.
+-- list. Assumes nothing.
 use Prim.Native.Nat.{ℕ, _+_, _≤_, _<_}
 use mathlib.Core.Path.{_≡_, sym, _∙_, ap, subst}
 use mathlib.Core.Logic.{inr, ⊎-elim, ⊎-map, _≢_}
@@ -12,15 +11,15 @@ use Rattle.order.specs.Set.{remove}
 use Rattle.order.specs.History.{head, tail, Removed, empty}
 use Rattle.order.proofs.Rows.{some-same}
 use Rattle.order.proofs.Keeps.{current}
-use Rattle.terms.specs.Terms.{small}
 use Rattle.reached.specs.Reached.{State, Past}
 use Rattle.drawing.specs.Phases.{Phase, preparing, numbering}
 use Rattle.drawing.specs.Drawing.{Drawing}
 use Rattle.drawing.specs.Effects.{Effect, after}
 use Rattle.drawing.proofs.Change.{change-other}
 use Rattle.drawing.proofs.Inv.{On, Facts}
-use Rattle.words.proofs.Show.{BeingCut, Cuts, Shown}
+use Rattle.words.proofs.Show.{BeingCut, Cuts}
 use Rattle.words.proofs.Land.{NoNumber, no-number}
+use Rattle.words.proofs.Steady.{Turn, its-facts}
 
 -- ---- a node more
 pub cuts-node : (used laid : ℕ) (m : Drawing) → Cuts used laid m → Cuts (used + 1) (laid + 2) m
@@ -54,10 +53,10 @@ being-kept m t f φ₀ φ here other x (w, k, p, z, c, e) = elim (ℕ-discrete w
 ]
 
 -- ---- the node of a remove at Prepare
-module _ (key val : ℕ → ℕ) (σ : State) (h : Past) (m : Drawing) (S : Shown small key val σ h m) (t k p q : ℕ)
+module _ {key val : ℕ → ℕ} {σ : State} {h : Past} {m : Drawing} {t : ℕ} (T : Turn key val σ h m t) {k p q : ℕ}
     (e : m .phase t ≡ preparing (remove k) p q) where
   F : Facts key val empty m t (preparing (remove k) p q)
-  F = rw e at (S .inv .facts t)
+  F = its-facts T e
 
   not-tail : q ≢ tail
   not-tail q≡tail = omega (arith, ap key q≡tail, F .4, F .0 .fine .1)
@@ -74,16 +73,16 @@ module _ (key val : ℕ → ℕ) (σ : State) (h : Past) (m : Drawing) (S : Show
   -- it is in the set, so no remove of it has a number
   not-removed : ¬ Removed q (m .log)
   not-removed removed =
-      let snap = current key empty (m .rows) (m .log) (S .inv .hist) in
+      let snap = current key empty (m .rows) (m .log) (T .shown .inv .hist) in
       let back : m .plain q ≡ head = some-same (F .2 .node node-on (F .3 .2) .1) (snap .gone q removed) in
-      omega (arith, S .inv .links q node-on .0, ap key back, S .head-key)
+      omega (arith, T .shown .inv .links q node-on .0, ap key back, T .shown .head-key)
 
   -- it is locked by this session, so no other has laid its remove
   not-being-cut : ¬ BeingCut m q
   not-being-cut (w, k₂, p₂, z₂, c₂, d) =
-      let G : Facts key val empty m w (numbering (remove k₂) p₂ q z₂ c₂) = rw d at (S .inv .facts w) in
+      let G : Facts key val empty m w (numbering (remove k₂) p₂ q z₂ c₂) = rw d at (T .shown .inv .facts w) in
       let w≡t : w ≡ t = some-same (G .0 .lock-y) (F .1 .lock-y) in
       no-number (preparing (remove k) p q) (remove k₂) p₂ q z₂ c₂ (sym e ∙ ap (m .phase) (sym w≡t) ∙ d) tt
 
-  pub uncut : ¬ List·Memᴰ q (S .cuts .cuts)
-  uncut i = ⊎-elim not-removed not-being-cut (S .cuts .cut q i)
+  pub uncut : ¬ List·Memᴰ q (T .shown .cuts .cuts)
+  uncut i = ⊎-elim not-removed not-being-cut (T .shown .cuts .cut q i)

@@ -1,24 +1,24 @@
 -- The words of a fresh register show the beginning of the drawing, with the empty set at stamp 0.
 -- In order: what a fresh register's words are; its two nodes; its one entry; all of it.
 -- Not here: any call. Assumes nothing.
-use Prim.Native.Nat.{ℕ, zero, suc, _+_, _*_, _≤_, _<_}
+use Prim.Native.Nat.{ℕ, zero, suc, _+_, _*_, _<_}
 use mathlib.Core.Path.{_≡_, refl, sym, _∙_, ap}
-use mathlib.Core.Logic.{_⊎_, inl, inr, ⊎-elim, _≢_}
+use mathlib.Core.Logic.{_⊎_, inl, inr, _≢_}
 use mathlib.Core.Bool.{Bool, true, false, cond, _&&_}
 use mathlib.Core.List.{List, [], _∷_, List·Memᴰ, List·Memᴰ·not-nil}
 use native.Mathlib.Decide.{ℕ-discrete}
 use native.Mathlib.Omega.{arith}
-use lib.ListN.{length, getD, set, replicate, length-replicate}
+use lib.ListN.{length, getD, replicate, length-replicate}
 use lib.Dec.{eqb}
-use borrow.Author.Tests.{eq-eqb, ne-eqb, eqb-true}
-use Rattle.table.specs.Table.{wordOf, storeOf, clearOf}
+use borrow.Author.Tests.{ne-eqb, eqb-true}
+use Rattle.table.specs.Table.{wordOf, clearOf}
 use Rattle.table.proofs.Laws.{word-stored, word-else, store-length}
 use Rattle.order.specs.Rows
 use Rattle.order.specs.History.{head, tail, empty, linked}
-use Rattle.bundle.specs.Bundle.{wordAt, layOf, finishOf}
+use Rattle.bundle.specs.Bundle.{layOf}
 use Rattle.bundle.specs.Shows.{Shows}
 use Rattle.bundle.proofs.Promise.{lay-length, finish-length, lay-front, finish-front}
-use Rattle.nodes.specs.Nodes.{nodeAt, putNode, keyAt, valueAt, nextAt, lockAt, removedAt, newestAt}
+use Rattle.nodes.specs.Nodes.{nodeAt, putNode, keyAt, nextAt, lockAt, removedAt, newestAt}
 use Rattle.terms.specs.Terms.{small, tailKey}
 use Rattle.terms.specs.declared.Size.{Size}
 use Rattle.terms.specs.declared.Counters.{Counters}
@@ -27,12 +27,12 @@ use Rattle.steps.specs.Steps
 use Rattle.register.specs.declared.Opened.{Opened}
 use Rattle.register.specs.Register.{fits, Fresh, opened, freshNodes, freshEntries, freshCounters, freshOf}
 use Rattle.sixteen.specs.Sixteen.{freshRegister}
-use Rattle.reached.specs.Reached.{State, noPast}
+use Rattle.reached.specs.Reached.{noPast}
 use Rattle.drawing.specs.Phases.{idle}
 use Rattle.drawing.specs.Drawing.{plainly, final, shown, beginning}
 use Rattle.drawing.proofs.Begin.{begin-empty}
 use Rattle.order.proofs.Tests.{cond-cases, eqb-cases}
-use Rattle.words.proofs.Show.{Agrees, Nodes, Sinks, Rows, Cuts, Tells, Shown}
+use Rattle.words.proofs.Show.{Agrees, Nodes, Sinks, Rows, Shown}
 
 -- ---- what freshOf leaves where it opens
 abbrev nodesIn : Fresh → List ℕ

@@ -2,20 +2,20 @@
 -- In order: calls told by what they leave; a busy session's step; a call that leaves all as it was; the pieces of a
 -- step, and `land`, which puts them together; steps that change the session's record alone.
 -- Not here: which step it is, phase by phase. Assumes nothing.
-use Prim.Native.Nat.{ℕ, _+_, _*_, _≤_, _<_}
+use Prim.Native.Nat.{ℕ, _*_, _≤_, _<_}
 use mathlib.Core.Path.{_≡_, refl, sym, _∙_, ap, subst}
 use mathlib.Core.Logic.{_⊎_, inl, inr, ⊎-elim, _≢_}
-use mathlib.Core.Bool.{Bool, true, false, cond}
-use mathlib.Core.List.{List, [], _∷_, _++_, map, List·Memᴰ}
+use mathlib.Core.Bool.{true, cond}
+use mathlib.Core.List.{List, _++_, map}
 use native.Mathlib.Decide.{ℕ-discrete}
 use native.Mathlib.Omega.{arith}
-use lib.ListN.{length, getD, set, length-set}
+use lib.ListN.{length, set, length-set}
 use lib.Seq.{getD-set-same, getD-set-other, set-getD}
-use lib.Dec.{ltb, eqb}
+use lib.Dec.{ltb}
 use borrow.Author.Tests.{lt-ltb, le-ltb, eq-eqb, ne-eqb}
 use Rattle.order.specs.Set.{Pair, Update, insert, remove}
-use Rattle.order.specs.History.{Logged, Removed, empty, said}
-use Rattle.terms.specs.Terms.{small, namesOf}
+use Rattle.order.specs.History.{Removed, empty, said}
+use Rattle.terms.specs.Terms.{small}
 use Rattle.terms.specs.declared.Size.{Size}
 use Rattle.terms.specs.declared.Counters.{Counters}
 use Rattle.terms.specs.declared.Refusal.{Refusal}
@@ -24,9 +24,8 @@ use Rattle.steps.specs.declared.Phase
 use Rattle.steps.specs.declared.Session.{Session}
 use Rattle.steps.specs.declared.Stepped.{Stepped}
 use Rattle.steps.specs.Steps
-use Rattle.steps.specs.Steps.{Done, done, actStep, busyOf, underWay}
+use Rattle.steps.specs.Steps.{done, actStep, busyOf, underWay}
 use Rattle.register.specs.Register.{fits, stepOf}
-use Rattle.sixteen.specs.declared.Register.{Register}
 use Rattle.sixteen.specs.declared.Call.{Call}
 use Rattle.sixteen.specs.Sixteen.{Left, served, with, afterStep, sessionOf}
 use Rattle.reached.specs.Reached.{State, stampOf, recordOf, opOf, whoOf, stateIn, answerIn, called, go, answer, Past}
@@ -38,9 +37,8 @@ use Rattle.drawing.specs.Effects.{Effect, stays, logBy, after}
 use Rattle.drawing.specs.Steps.{Out, working, present, absent, full, inserted, removed, key-value, ended, Step, Waits}
 use Rattle.drawing.proofs.Change.{change-same, change-other}
 use Rattle.drawing.proofs.Keeps.{step-keeps}
-use Rattle.words.proofs.Show.{Agrees, Nodes, Rows, opWord, running, Runs, BeingCut, Cuts, HandedIn, Tells}
-use Rattle.words.proofs.Show.{Shown}
-use Rattle.words.proofs.Show.{outWord, Advance, waited, stepped, Advanced}
+use Rattle.words.proofs.Show.{Agrees, Nodes, Rows, running, Runs, BeingCut, Cuts, HandedIn, Tells, Shown}
+use Rattle.words.proofs.Show.{outWord, waited, stepped, Advanced}
 
 -- ---- a call told by what it leaves
 abbrev pub usedOf : State → ℕ

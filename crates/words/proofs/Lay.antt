@@ -1,8 +1,7 @@
 -- Laying two pending entries in words, an insert's or a remove's: pred's the lower, then the node's.
--- In order: what is known before the two entries are laid; the tables after; rows; records; landing.
--- The node table may have a new node already (`ns`, with `used` nodes and rows `own`); `g` is the word that pred's
--- entry
--- leads to. Not here: the tests before laying (Prepare). Assumes nothing.
+-- In order: the tables after; what is known before; rows; nodes; records; landing.
+-- `ns` is the node table with `used` nodes and rows `own`, an insert's new node among them; `g` is the word that
+-- pred's entry leads to. Not here: the tests before laying (Prepare). Assumes nothing.
 use Prim.Native.Nat.{ℕ, _+_, _*_, _≤_, _<_}
 use mathlib.Core.Path.{_≡_, refl, sym, _∙_, ap, subst}
 use mathlib.Core.Logic.{_≢_}
@@ -16,7 +15,6 @@ use Rattle.order.specs.History.{empty}
 use Rattle.nodes.specs.Nodes.{putNode, newestAt}
 use Rattle.bundle.specs.Bundle.{layOf}
 use Rattle.bundle.proofs.Promise.{lay-length}
-use Rattle.terms.specs.Terms.{small}
 use Rattle.steps.specs.declared.Phase
 use Rattle.steps.specs.declared.Stepped.{Stepped}
 use Rattle.steps.specs.Steps.{works, counted}
@@ -27,13 +25,13 @@ use Rattle.drawing.specs.Effects.{lays, newPlain, newGone, twoEntries, after}
 use Rattle.drawing.specs.Steps.{working, Step}
 use Rattle.drawing.proofs.Change.{change-same, change-other, pair-first, pair-other}
 use Rattle.drawing.proofs.Inv.{Pends}
-use Rattle.words.proofs.Show.{Nodes, Rows, opWord, running, Runs, Cuts, Shown, Advanced}
-use Rattle.words.proofs.Land.{Acts, Busy, no-update, Landing, land}
-use Rattle.words.proofs.NodeWords.{redrawn, as-nodes, put-rest}
+use Rattle.words.proofs.Show.{Nodes, Rows, opWord, running, Runs, Cuts, Advanced}
+use Rattle.words.proofs.Land.{Acts, Busy, no-update, Landing}
+use Rattle.words.proofs.NodeWords.{redrawn, as-nodes, put-newest}
 use Rattle.words.proofs.RowWords.{bundled, rows-kept, lay-rows}
 use Rattle.words.proofs.Use.{entries-most}
 use Rattle.words.proofs.Others.{runs-kept, final-unpended}
-use Rattle.words.proofs.Steady.{AgreesAfter}
+use Rattle.words.proofs.Steady.{Turn, lands}
 
 -- ---- the tables after laying entries e and e + 1 in p and y
 abbrev pub laidNodes : List ℕ → (p y e : ℕ) → List ℕ
@@ -46,14 +44,26 @@ abbrev pub laidEntries : List ℕ → List ℕ → (p y e g g₂ s : ℕ) → Li
 laidEntries ns es p y e g g₂ s =
     layOf (predEntries ns es p e g s) (e + 1) g₂ s (newestAt (putNode ns p 5 (e + 1)) y)
 
-module _ (key val : ℕ → ℕ) (σ : State) (h : Past) (m : Drawing) (S : Shown small key val σ h m) (t : ℕ)
-    (t<16 : t < 16) (agrees : AgreesAfter key val σ t) (u : Update) (p y z g : ℕ) (r r₂ : Row)
-    (final-p : m .bundle p ≡ final r) (final-y : m .bundle y ≡ final r₂) (p≢y : p ≢ y) (leads : predTarget u y z ≡ g)
-    (used : ℕ) (ns : List ℕ) (own : ℕ → List ℕ) (p<used : p < used) (y<used : y < used) (two : 2 ≤ used)
-    (most : used ≤ 512) (whole : length ns ≡ 512 * 6)
-    (R : Rows 2048 used (σ .register .counters .entries) ns (σ .entries) own m)
-    (N : Nodes used ns (redrawn m (newPlain u y z (m .plain)) (m .lock) (newGone u y (m .gone))))
-    (same : (x : ℕ) → x ≢ y → own x ≡ S .own x) where
+-- ---- ready to lay an update's two entries: both newest are final, and nodes, rows and records stand as before, but
+-- that an insert's node is in the table already
+pub record Ready {key val : ℕ → ℕ} {σ : State} {h : Past} {m : Drawing} {t : ℕ} (T : Turn key val σ h m t)
+    (u : Update) (p y z g : ℕ) (r r₂ : Row) (used : ℕ) (ns : List ℕ) (own : ℕ → List ℕ) : Type 0 where
+  pub final-p : m .bundle p ≡ final r
+  pub final-y : m .bundle y ≡ final r₂
+  pub p≢y : p ≢ y
+  pub leads : predTarget u y z ≡ g
+  pub p<used : p < used
+  pub y<used : y < used
+  pub two : 2 ≤ used
+  pub most : used ≤ 512
+  pub whole : length ns ≡ 512 * 6
+  pub rows : Rows 2048 used (σ .register .counters .entries) ns (σ .entries) own m
+  pub nodes : Nodes used ns (redrawn m (newPlain u y z (m .plain)) (m .lock) (newGone u y (m .gone)))
+  pub same : (x : ℕ) → x ≢ y → own x ≡ T .shown .own x
+
+module _ {key val : ℕ → ℕ} {σ : State} {h : Past} {m : Drawing} {t : ℕ} {T : Turn key val σ h m t} {u : Update}
+    {p y z g : ℕ} {r r₂ : Row} {used : ℕ} {ns : List ℕ} {own : ℕ → List ℕ}
+    (B : Ready T u p y z g r r₂ used ns own) where
   abbrev laid : ℕ
   laid = σ .register .counters .entries
 
@@ -81,24 +91,25 @@ module _ (key val : ℕ → ℕ) (σ : State) (h : Past) (m : Drawing) (S : Show
 
   pred-rows : Rows 2048 used (laid + 1) (putNode ns p 5 (laid + 1)) (predEntries ns (σ .entries) p laid g (stampOf σ))
       ownP predLaid
-  pred-rows = lay-rows 2048 used laid ns (σ .entries) own m R p t (stampOf σ) g r p<used final-p (omega arith)
-      (S .whole-entries) (omega (arith, entries-most key val σ h m S))
+  pred-rows = lay-rows 2048 used laid ns (σ .entries) own m (B .rows) p t (stampOf σ) g r (B .p<used) (B .final-p)
+      (omega (arith, B .most, B .whole)) (T .shown .whole-entries)
+      (omega (arith, entries-most key val σ h m (T .shown)))
 
   both-rows : Rows 2048 used (laid + 1 + 1) tablesN tablesE ownBoth
       (bundled predLaid (change (predLaid .bundle) y (pending t (stampOf σ) (nodeTarget u y z) r₂)))
   both-rows = lay-rows 2048 used (laid + 1) (putNode ns p 5 (laid + 1)) _ ownP predLaid pred-rows y t (stampOf σ)
-      (nodeTarget u y z) r₂ y<used (change-other (m .bundle) p _ y (λ e. p≢y (sym e)) ∙ final-y)
-      (omega (arith, store-length 6 ns p 5 (laid + 1)))
-      (lay-length (σ .entries) laid g (stampOf σ) (newestAt ns p) ∙ S .whole-entries)
-      (omega (arith, entries-most key val σ h m S))
+      (nodeTarget u y z) r₂ (B .y<used) (change-other (m .bundle) p _ y (λ e. B .p≢y (sym e)) ∙ B .final-y)
+      (omega (arith, B .most, B .whole, store-length 6 ns p 5 (laid + 1)))
+      (lay-length (σ .entries) laid g (stampOf σ) (newestAt ns p) ∙ T .shown .whole-entries)
+      (omega (arith, entries-most key val σ h m (T .shown)))
 
   laid-bundle : (x : ℕ) → after empty m t (lays u p y z r r₂) then .bundle x
       ≡ twoEntries (m .bundle) p (pending t (stampOf σ) g r) y (pending t (stampOf σ) (nodeTarget u y z) r₂) x
   laid-bundle x =
       ap (λ s. twoEntries (m .bundle) p (pending t s (predTarget u y z) r) y (pending t s (nodeTarget u y z) r₂) x)
-      (sym (S .stamp))
+      (sym (T .shown .stamp))
       ∙ ap (λ a. twoEntries (m .bundle) p (pending t (stampOf σ) a r) y
-      (pending t (stampOf σ) (nodeTarget u y z) r₂) x) leads
+      (pending t (stampOf σ) (nodeTarget u y z) r₂) x) (B .leads)
 
   laid-rows : Rows 2048 used (laid + 2) tablesN tablesE ownBoth (after empty m t (lays u p y z r r₂) then)
   laid-rows = subst
@@ -108,26 +119,25 @@ module _ (key val : ℕ → ℕ) (σ : State) (h : Past) (m : Drawing) (S : Show
 
   -- ---- nodes
   laid-nodes : Nodes used tablesN (after empty m t (lays u p y z r r₂) then)
-  laid-nodes = as-nodes used tablesN _ _
-      (put-rest used _ _
-      (put-rest used ns _ N p 5 (laid + 1) (omega arith) (omega arith) (omega arith) (omega arith)) y 5 (laid + 1 + 1)
-      (omega arith) (omega arith) (omega arith) (omega arith)) (λ _. refl) (λ _. refl) (λ _. refl)
+  laid-nodes = as-nodes used tablesN _ _ (put-newest used _ _ (put-newest used ns _ (B .nodes) p (laid + 1)) y _)
+      (λ _. refl) (λ _. refl) (λ _. refl)
 
   -- ---- records: this session's names its two entries, the others' rows are as they were
   laid-runs : Runs ownBoth then (running (upd u) (Phase.Phase.Number p y laid (laid + 1)))
   laid-runs = (
     laid,
     laid + 1,
-    (own p, pair-first own p y (laid ∷ own p) ((laid + 1) ∷ ownP y) p≢y),
+    (own p, pair-first own p y (laid ∷ own p) ((laid + 1) ∷ ownP y) (B .p≢y)),
     (ownP y, change-same ownP y ((laid + 1) ∷ ownP y)),
     refl,
   )
 
-  others-own : (w x : ℕ) → Pends (m .phase w) x → ownBoth x ≡ S .own x
+  others-own : (w x : ℕ) → Pends (m .phase w) x → ownBoth x ≡ T .shown .own x
   others-own w x pends =
-      let x≢p : x ≢ p = λ e. final-unpended key val m (S .inv) w p r final-p (subst (Pends (m .phase w)) e pends) in
-      let x≢y : x ≢ y = λ e. final-unpended key val m (S .inv) w y r₂ final-y (subst (Pends (m .phase w)) e pends) in
-      pair-other own p y (laid ∷ own p) ((laid + 1) ∷ ownP y) x x≢p x≢y ∙ same x x≢y
+      let unpended = final-unpended key val m (T .shown .inv) w in
+      let x≢p : x ≢ p = λ e. unpended p r (B .final-p) (subst (Pends (m .phase w)) e pends) in
+      let x≢y : x ≢ y = λ e. unpended y r₂ (B .final-y) (subst (Pends (m .phase w)) e pends) in
+      pair-other own p y (laid ∷ own p) ((laid + 1) ∷ ownP y) x x≢p x≢y ∙ B .same x x≢y
 
   -- ---- landing
   lay-lands : Acts σ t tablesN tablesE laidBy → Step key val empty t m working (lays u p y z r r₂) then
@@ -138,25 +148,26 @@ module _ (key val : ℕ → ℕ) (σ : State) (h : Past) (m : Drawing) (S : Show
     step = step;
     answers = refl;
     whole-nodes = store-length 6 (putNode ns p 5 (laid + 1)) y 5 (laid + 1 + 1) ∙ store-length 6 ns p 5 (laid + 1)
-        ∙ whole;
+        ∙ B .whole;
     whole-entries = lay-length (predEntries ns (σ .entries) p laid g (stampOf σ)) (laid + 1) (nodeTarget u y z)
         (stampOf σ) (newestAt (putNode ns p 5 (laid + 1)) y)
-        ∙ lay-length (σ .entries) laid g (stampOf σ) (newestAt ns p) ∙ S .whole-entries;
-    two = two;
-    most = most;
+        ∙ lay-length (σ .entries) laid g (stampOf σ) (newestAt ns p) ∙ T .shown .whole-entries;
+    two = B .two;
+    most = B .most;
     nodes = laid-nodes;
     own = ownBoth;
     rows = laid-rows;
-    stamp = S .stamp;
+    stamp = T .shown .stamp;
     runs = laid-runs;
-    others = λ w w<16 _. runs-kept (S .own) ownBoth (m .phase w) (recordOf σ w) (others-own w) (S .runs w w<16);
+    others = λ w w<16 _. runs-kept (T .shown .own) ownBoth (m .phase w) (recordOf σ w) (others-own w) (T .shown .runs
+        w w<16);
     cuts = cuts;
-    updates = no-update (stampOf σ) (stampOf σ) _ (h .updates) refl ∙ S .tells .updates;
+    updates = no-update (stampOf σ) (stampOf σ) _ (h .updates) refl ∙ T .shown .tells .updates;
     handed = tt;
   }
 
-  pub lay : (φ₀ : Phase) → m .phase t ≡ φ₀ → Busy φ₀ → Acts σ t tablesN tablesE laidBy
+  pub lay : {φ₀ : Phase} → m .phase t ≡ φ₀ → Busy φ₀ → Acts σ t tablesN tablesE laidBy
       → Step key val empty t m working (lays u p y z r r₂) then
       → Cuts used (laid + 2) (after empty m t (lays u p y z r r₂) then) → Advanced key val σ h m t
-  lay φ₀ here busy acts step cuts = land key val σ h m S t t<16 tablesN tablesE laidBy working (lays u p y z r r₂)
-      then (lay-lands acts step cuts) φ₀ here busy agrees
+  lay here busy acts step cuts =
+      lands T here busy tablesN tablesE laidBy working (lays u p y z r r₂) then (lay-lands acts step cuts)

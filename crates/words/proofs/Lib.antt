@@ -1,10 +1,10 @@
--- The words of a reached register show a drawing, and step as it does.
+-- The words of a reached register show a drawing, and step as it does; so demand 2 holds.
 -- In order, each on those before: what it is that words show a drawing; what a step leaves, and the shown drawing put
--- together; calls change no key or value in use; a fresh register; starts and refusals; what effects do to the words
--- of
--- nodes and to rows; nodes in use; other sessions' records; an update's steps; the readers' steps; reached registers;
--- what answers say.
--- Not here: definitions of registers, steps and answers (crates reached, steps, drawing). Assumes nothing.
+-- together; no call changes a key or a value in use; a fresh register; starts and refusals; the words of nodes and
+-- rows after each effect; nodes in use; other sessions' records; an update's steps; the readers' steps; reached
+-- registers; what answers say; the history by the log; demand 2; an example.
+-- Not here: definitions of registers, steps, the drawing and the demand (crates reached, steps, drawing).
+-- Assumes nothing.
 pub mod Show
 pub mod Land
 pub mod Back
@@ -27,4 +27,6 @@ pub mod Prepare
 pub mod Readers
 pub mod Whole
 pub mod Says
+pub mod History
 pub mod Demand2
+pub mod Example

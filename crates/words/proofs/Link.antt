@@ -1,5 +1,5 @@
 -- Link in words: pred's plain next moves on, and a removed node is marked, as in the drawing.
--- In order: the words after an insert's Link; after a remove's; Link.
+-- In order: the words after it; what the step is; Link.
 -- Assumes nothing.
 use Prim.Native.Nat.{ℕ, _*_, _≤_, _<_}
 use mathlib.Core.Path.{_≡_, refl, sym, _∙_, ap}
@@ -13,6 +13,7 @@ use Rattle.order.specs.Set.{Update, insert, remove}
 use Rattle.order.specs.History.{empty}
 use Rattle.nodes.specs.Nodes.{putNode, nextAt, newestAt}
 use Rattle.terms.specs.Terms.{small}
+use Rattle.terms.specs.declared.Counters.{Counters}
 use Rattle.steps.specs.declared.Phase
 use Rattle.steps.specs.Steps.{moved, works, over, linkStep}
 use Rattle.finishing.proofs.Ways
@@ -21,13 +22,11 @@ use Rattle.drawing.specs.Phases.{upd, Phase, linking, finishing}
 use Rattle.drawing.specs.Drawing.{change, Drawing}
 use Rattle.drawing.specs.Effects.{links, after}
 use Rattle.drawing.specs.Steps.{working, link-it}
-use Rattle.drawing.proofs.Inv.{Facts}
 use Rattle.words.proofs.Show.{Nodes, opWord, running, Newest, Shown, Advanced}
 use Rattle.words.proofs.Land.{usedOf}
 use Rattle.words.proofs.NodeWords.{redrawn, as-nodes, put-else, put-plain, put-gone}
-use Rattle.words.proofs.RowWords.{rows-kept}
-use Rattle.words.proofs.Use.{named-below, in-table, nodes-fit}
-use Rattle.words.proofs.Steady.{AgreesAfter, steady}
+use Rattle.words.proofs.Use.{nodes-fit}
+use Rattle.words.proofs.Steady.{AgreesAfter, Turn, turn, its-facts, its-record, its-node, its-node-in, moves}
 
 -- ---- the node table after Link
 abbrev pub linkedWords : Update → List ℕ → (p y : ℕ) → List ℕ
@@ -57,48 +56,38 @@ module _ (ns : List ℕ) (p y : ℕ) where
         (omega (arith, store-length 6 ns y 4 1)) (nextAt ns y))
         (λ x. ap (λ a. change (m .plain) p a x) (sym (N .plain y y<used ∙ leads))) (λ _. refl) (λ _. refl)
 
+-- ---- what the step is
+link-acts : (ns : List ℕ) (c : Counters) (u : Update) (p y lower upper n : ℕ) → p < 512 → y < 512
+    → moved (linkedWords u ns p y) (works c (opWord (upd u)) (Phase.Phase.Finish p y lower upper n))
+    ≡ linkStep small ns c (opWord (upd u)) p y lower upper n
+link-acts ns c (insert k v) p y lower upper n p-in y-in =
+    Ways.link-insert small ns c _ p y lower upper n false refl _ refl
+    (Ways.insert-links small ns c _ p y lower upper n _ _ p-in refl refl)
+link-acts ns c (remove k) p y lower upper n p-in y-in =
+    Ways.link-remove small ns c _ p y lower upper n true refl _ refl
+    (Ways.remove-links small ns c _ p y lower upper n _ _ _ _ p-in y-in refl refl refl refl)
+
+-- ---- Link, of a session whose record names its two entries
+module _ {key val : ℕ → ℕ} {σ : State} {h : Past} {m : Drawing} {t : ℕ} (T : Turn key val σ h m t)
+    {u : Update} {p y z c n : ℕ} (e : m .phase t ≡ linking u p y z c n) {lower upper : ℕ}
+    (is : recordOf σ t ≡ running (upd u) (Phase.Phase.Link p y lower upper n)) where
+  links-it : Newest lower (T .shown .own p) → Newest upper (T .shown .own y) → Advanced key val σ h m t
+  links-it newest-p newest-y =
+      moves T e tt tt (linkedWords u (σ .nodes) p y) (running (upd u) (Phase.Phase.Link p y lower upper n))
+      (running (upd u) (Phase.Phase.Finish p y lower upper n)) working (links u p y z) (finishing u p y z c n) is
+      (ap (over (σ .entries)) (sym (link-acts (σ .nodes) (σ .register .counters) u p y lower upper n
+      (its-node-in T e p (inl refl)) (its-node-in T e y (inr refl)))))
+      (link-it u p y z c n e) (linked-length (σ .nodes) p y u)
+      (linked-nodes (σ .nodes) p y (usedOf σ) m (T .shown .nodes) (its-node T e p (inl refl))
+      (its-node T e y (inr refl)) (nodes-fit key val σ h m (T .shown)) t z (finishing u p y z c n)
+      (its-facts T e .2 .node-next) u)
+      (linked-newest (σ .nodes) p y u) (λ _. refl) refl (lower, upper, newest-p, newest-y, refl) tt
+
+-- ---- LINK
 module _ (key val : ℕ → ℕ) (σ : State) (h : Past) (m : Drawing) (S : Shown small key val σ h m) (t : ℕ)
     (t<16 : t < 16) (agrees : AgreesAfter key val σ t) where
-  -- ---- what the step is
-  link-acts : (u : Update) (p y lower upper n : ℕ) → p < 512 → y < 512
-      → moved (linkedWords u (σ .nodes) p y) (works (σ .register .counters) (opWord (upd u))
-      (Phase.Phase.Finish p y lower upper n))
-      ≡ linkStep small (σ .nodes) (σ .register .counters) (opWord (upd u)) p y lower upper n
-  link-acts (insert k v) p y lower upper n p-in y-in =
-      Ways.link-insert small (σ .nodes) (σ .register .counters) _ p y lower upper n false refl _ refl
-      (Ways.insert-links small (σ .nodes) (σ .register .counters) _ p y lower upper n _ _ p-in refl refl)
-  link-acts (remove k) p y lower upper n p-in y-in =
-      Ways.link-remove small (σ .nodes) (σ .register .counters) _ p y lower upper n true refl _ refl
-      (Ways.remove-links small (σ .nodes) (σ .register .counters) _ p y lower upper n _ _ _ _ p-in y-in refl refl
-      refl refl)
-
-  -- ---- Link, of a session whose record names its two entries
-  module _ (u : Update) (p y z c n : ℕ) (e : m .phase t ≡ linking u p y z c n) (lower upper : ℕ)
-      (is : recordOf σ t ≡ running (upd u) (Phase.Phase.Link p y lower upper n)) where
-    F : Facts key val empty m t (linking u p y z c n)
-    F = rw e at (S .inv .facts t)
-
-    below-p : p < usedOf σ
-    below-p = named-below key val σ h m S t (linking u p y z c n) e p (inl refl)
-
-    below-y : y < usedOf σ
-    below-y = named-below key val σ h m S t (linking u p y z c n) e y (inr refl)
-
-    links-it : Newest lower (S .own p) → Newest upper (S .own y) → Advanced key val σ h m t
-    links-it newest-p newest-y =
-        steady key val σ h m S t t<16 agrees (linking u p y z c n) e tt tt (linkedWords u (σ .nodes) p y)
-        (σ .entries) (running (upd u) (Phase.Phase.Link p y lower upper n))
-        (running (upd u) (Phase.Phase.Finish p y lower upper n)) working (links u p y z) (finishing u p y z c n) is
-        (ap (over (σ .entries)) (sym (link-acts u p y lower upper n (in-table key val σ h m S p below-p)
-        (in-table key val σ h m S y below-y))))
-        (link-it u p y z c n e) (linked-length (σ .nodes) p y u) refl
-        (linked-nodes (σ .nodes) p y (usedOf σ) m (S .nodes) below-p below-y (nodes-fit key val σ h m S) t z
-        (finishing u p y z c n) (F .2 .node-next) u)
-        (rows-kept _ _ _ (σ .nodes) (σ .entries) (S .own) m (S .rows) _ _
-        (λ x _. linked-newest (σ .nodes) p y u x) (λ _. refl))
-        refl (lower, upper, newest-p, newest-y, refl) tt
-
   pub link-advances : (u : Update) (p y z c n : ℕ) → m .phase t ≡ linking u p y z c n → Advanced key val σ h m t
   link-advances u p y z c n e =
-      let (lower, upper, newest-p, newest-y, is) = rw e at (S .runs t t<16) in
-      links-it u p y z c n e lower upper is newest-p newest-y
+      let T = turn key val σ h m S t t<16 agrees in
+      let (lower, upper, newest-p, newest-y, is) = its-record T e in
+      links-it T e is newest-p newest-y

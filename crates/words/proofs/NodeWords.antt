@@ -1,7 +1,7 @@
 -- The words of the nodes in use after each effect: plain links, locks and marks.
 -- In order: locks given up; one word stored; a drawing with other links, locks or marks; each kind of store;
--- unlocking;
--- a new node. Not here: rows (RowWords). Assumes nothing.
+-- unlocking; a new node.
+-- Not here: rows (RowWords). Assumes nothing.
 use Prim.Native.Nat.{ℕ, _+_, _*_, _≤_, _<_}
 use mathlib.Core.Path.{_≡_, refl, sym, _∙_, ap}
 use mathlib.Core.Logic.{inl, inr, ⊎-elim, _≢_}
@@ -90,11 +90,11 @@ as-nodes used ns m m′ N plain lock gone = record {
 
 -- ---- each kind of store at a node in use
 module _ (used : ℕ) (ns : List ℕ) (m : Drawing) (N : Nodes used ns m) (y : ℕ) where
-  pub put-rest : (k v : ℕ) → k < 6 → k ≢ 2 → k ≢ 3 → k ≢ 4 → Nodes used (putNode ns y k v) m
-  put-rest k v k<6 k≢2 k≢3 k≢4 = record {
-    plain = λ x h. put-else ns y k v x 2 k<6 (omega arith) (λ e. k≢2 (sym e)) ∙ N .plain x h;
-    lock = λ x h. put-else ns y k v x 3 k<6 (omega arith) (λ e. k≢3 (sym e)) ∙ N .lock x h;
-    gone = λ x h. put-else ns y k v x 4 k<6 (omega arith) (λ e. k≢4 (sym e)) ∙ N .gone x h;
+  pub put-newest : (v : ℕ) → Nodes used (putNode ns y 5 v) m
+  put-newest v = record {
+    plain = λ x h. put-else ns y 5 v x 2 (omega arith) (omega arith) (omega arith) ∙ N .plain x h;
+    lock = λ x h. put-else ns y 5 v x 3 (omega arith) (omega arith) (omega arith) ∙ N .lock x h;
+    gone = λ x h. put-else ns y 5 v x 4 (omega arith) (omega arith) (omega arith) ∙ N .gone x h;
   }
 
   module _ (y<used : y < used) (fits : used * 6 ≤ length ns) where

@@ -1,41 +1,39 @@
 -- The steps that write nothing, in words and in the drawing: Walk, has's Follow, Fix, Follow, Hand.
 -- In order: quiet steps by their record; what the words of a node are; Walk; has's Follow; Fix; Follow; Hand.
 -- Not here: an update's own steps. Assumes nothing.
-use Prim.Native.Nat.{ℕ, suc, _+_, _≤_, _<_}
+use Prim.Native.Nat.{ℕ, _+_, _≤_, _<_}
 use mathlib.Core.Path.{_≡_, refl, sym, _∙_, ap}
-use mathlib.Core.Logic.{_⊎_, inl, inr, ⊎-elim, _≢_}
-use mathlib.Core.Option.{Option, some}
+use mathlib.Core.Logic.{inr, ⊎-elim}
+use mathlib.Core.Option.{some}
 use mathlib.Core.List.{List, [], _∷_, _++_}
 use native.Mathlib.Decide.{decLe, decLt, ℕ-discrete}
 use native.Mathlib.Omega.{arith}
 use lib.ListN.{length, length-append}
 use Rattle.order.specs.Set.{Pair, insert, remove}
-use Rattle.order.specs.Rows.{Row, wait, found, readAt, readNewest}
+use Rattle.order.specs.Rows.{wait, found, readAt, readNewest}
 use Rattle.order.specs.History.{empty, entry}
 use Rattle.bundle.specs.Bundle.{atOf, newestOf}
 use Rattle.bundle.specs.Shows.{asRead}
 use Rattle.bundle.proofs.Promise.{read-at-is, read-newest-is}
-use Rattle.nodes.specs.Nodes.{keyAt, valueAt, newestAt}
+use Rattle.nodes.specs.Nodes.{keyAt, newestAt}
 use Rattle.terms.specs.Terms.{small, soughtOf}
 use Rattle.terms.specs.declared.Counters.{Counters}
 use Rattle.terms.specs.declared.Op
-use Rattle.terms.specs.declared.Answer.{Answer}
 use Rattle.steps.specs.declared.Phase
 use Rattle.steps.specs.declared.Session.{Session}
 use Rattle.steps.specs.declared.Stepped.{Stepped}
 use Rattle.steps.specs.Steps
-use Rattle.steps.specs.Steps.{done, arrivedOf, gives, works, ends}
+use Rattle.steps.specs.Steps.{done, arrivedOf, works}
 use Rattle.reading.proofs.Ways
-use Rattle.reached.specs.Reached.{State, stampOf, recordOf, Past, at, handedBy}
+use Rattle.reached.specs.Reached.{State, recordOf, Past, at, handedBy}
 use Rattle.drawing.specs.Phases.{Op, upd, has, range, sought, Phase, idle, walking, seeking, fixing, following}
-use Rattle.drawing.specs.Phases.{handing}
-use Rattle.drawing.specs.Phases.{arrived}
-use Rattle.drawing.specs.Drawing.{final, shown, Drawing, now}
+use Rattle.drawing.specs.Phases.{handing, arrived}
+use Rattle.drawing.specs.Drawing.{shown, Drawing, now}
 use Rattle.drawing.specs.Effects.{stays}
 use Rattle.drawing.specs.Steps.{Out, working, present, absent, key-value, ended, Step, walk-on, walk-arrive, seek-on}
 use Rattle.drawing.specs.Steps.{seek-present, seek-absent, fix-it, follow-on, follow-in, follow-end, hand-out}
 use Rattle.drawing.proofs.Inv.{Facts}
-use Rattle.drawing.proofs.Room.{Names, newest-used, follow-used, hand-room}
+use Rattle.drawing.proofs.Room.{newest-used, follow-used, hand-room}
 use Rattle.drawing.proofs.Goes.{bundle-cases, newest-found, follow-finds}
 use Rattle.words.proofs.Show.{Sinks, opWord, running, Runs, HandedIn, outWord, Shown, Advanced}
 use Rattle.words.proofs.Land.{Busy, NoNumber, at-same, handed-at, quiet}

@@ -1,6 +1,5 @@
 -- Rows in the words after each effect: a new node, an entry laid, an entry made final.
--- In order: falling entry numbers; a drawing with other bundles; rows whose words stay; a new node's; laying;
--- finishing.
+-- In order: falling entry numbers; a drawing with other bundles; rows that stay; a new node's; laying; finishing.
 -- Not here: plain links, locks and marks (NodeWords). Assumes nothing.
 use Prim.Native.Nat.{ℕ, _+_, _*_, _≤_, _<_}
 use mathlib.Core.Path.{_≡_, refl, sym, _∙_, ap, subst}
@@ -133,7 +132,7 @@ module _ (size used laid : ℕ) (ns es : List ℕ) (own : ℕ → List ℕ) (m :
       shows = laid-shows;
       sinks = λ y h. change-cases (λ o. Sinks (laid + 1) o) own x (laid ∷ own x) y
           (λ _. (omega arith, R .sinks x x<used)) (λ _. sinks-more laid (laid + 1) (own y) (omega arith) (R .sinks y
-              h));
+          h));
       apart = laid-apart;
       blank = λ y h. change-other (m .bundle) x (pending t c g r) y (λ e. omega (arith, e)) ∙ R .blank y h;
     }

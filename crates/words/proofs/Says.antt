@@ -1,19 +1,18 @@
 -- What the answer to a call says, told of the drawing that the words show.
 -- In order: full, in the drawing and in words; what each answer says; that a call's answer says so.
 -- Not here: the history in demand 2's words (Demand2). Assumes nothing.
-use Prim.Native.Nat.{ℕ, _+_, _≤_, _<_}
+use Prim.Native.Nat.{ℕ, _+_, _<_}
 use mathlib.Core.Path.{_≡_, refl, sym, _∙_, ap, subst}
-use mathlib.Core.Logic.{_⊎_, inl, inr, ⊎-elim, _≢_}
-use mathlib.Core.Bool.{Bool, true, false, cond}
-use mathlib.Core.List.{List, [], _∷_}
+use mathlib.Core.Logic.{_⊎_, inl, inr}
+use mathlib.Core.Bool.{true}
+use mathlib.Core.List.{List}
 use native.Mathlib.Omega.{arith}
 use lib.ListN.{length}
-use lib.Dec.{ltb, eqb}
+use lib.Dec.{ltb}
 use Rattle.order.specs.Set.{Pair, Update, insert, remove}
 use Rattle.order.specs.History.{empty}
 use Rattle.order.proofs.Tests.{cond-cases, eqb-cases}
 use Rattle.bundle.specs.declared.Held.{Held}
-use Rattle.nodes.specs.Nodes.{unlocked}
 use Rattle.terms.specs.Terms.{small}
 use Rattle.terms.specs.declared.Size.{Size}
 use Rattle.terms.specs.declared.Counters.{Counters}
@@ -21,14 +20,15 @@ use Rattle.terms.specs.declared.Op
 use Rattle.terms.specs.declared.Refusal.{Refusal}
 use Rattle.terms.specs.declared.Answer.{Answer}
 use Rattle.steps.specs.declared.Phase
+use Rattle.steps.specs.declared.Session.{Session}
 use Rattle.steps.specs.declared.Stepped.{Stepped}
-use Rattle.steps.specs.Steps.{Done, done, Tables, tables, leaves, heldAt, onHeld, insertLaid, insertRoom, prepareStep}
-use Rattle.steps.specs.Steps.{actStep}
+use Rattle.steps.specs.Steps.{busyOf, Done, done, Tables, tables, leaves, heldAt, onHeld, insertLaid, insertRoom}
+use Rattle.steps.specs.Steps.{prepareStep, actStep}
 use Rattle.register.specs.Register.{stepOf}
 use Rattle.sixteen.specs.declared.Register.{Register}
 use Rattle.sixteen.specs.declared.Call.{Call}
-use Rattle.sixteen.specs.Sixteen.{served, afterStep}
-use Rattle.reached.specs.Reached.{State, recordOf, whoOf, answerIn, called, answer, Past}
+use Rattle.sixteen.specs.Sixteen.{afterStep}
+use Rattle.reached.specs.Reached.{State, recordOf, answerIn, answer, Past}
 use Rattle.drawing.specs.Phases.{upd, Phase, idle, preparing}
 use Rattle.drawing.specs.Drawing.{Drawing}
 use Rattle.drawing.specs.Effects.{Effect}
@@ -97,9 +97,6 @@ answerOf (done ns es r) = r .answer
 
 abbrev Full : Answer
 Full = Answer.Refused Refusal.Full
-
-abbrev Elsewise : Answer → Type 0
-Elsewise a = a ≡ Full → ⊥
 
 module _ (z : Size) (ns es : List ℕ) (c : Counters) (op : Op.Op) (p q : ℕ) where
   record OnlyFull (o : Done) : Type 0 where
@@ -192,19 +189,24 @@ left-answer : (g : Register) (t : ℕ) (o : Done) → answerIn (afterStep g t o)
 left-answer g t (done ns es r) = refl
 
 module _ (key val : ℕ → ℕ) (σ : State) (h : Past) (m : Drawing) (S : Shown small key val σ h m) (t : ℕ) where
-  -- ---- full in words
+  -- ---- the answer to a busy session's step, by its record; and full in words
+  step-answer : (s : Session) → recordOf σ t ≡ s → t < 16 → busyOf (recordOf σ t) ≡ true
+      → answer small σ (Call.Step t)
+      ≡ answerOf (actStep small (σ .nodes) (σ .entries) (σ .register .counters) t (s .op) (s .phase))
+  step-answer s is low busy =
+      left-answer (σ .register) t
+      (stepOf small (σ .nodes) (σ .entries) (σ .register .counters) t (recordOf σ t))
+      ∙ ap answerOf (step-acts small (σ .nodes) (σ .entries) (σ .register .counters) t (recordOf σ t)
+      (fits-whole small (σ .nodes) (σ .entries) (S .whole-nodes) (S .whole-entries)) low busy)
+      ∙ ap (λ a. answerOf (actStep small (σ .nodes) (σ .entries) (σ .register .counters) t (a .op) (a .phase))) is
+
   full-words : (k v p q : ℕ) → t < 16 → m .phase t ≡ preparing (insert k v) p q
       → answer small σ (Call.Step t) ≡ Full → usedOf σ ≡ 512
   full-words k v p q low e a =
-      let c = σ .register .counters in
       let is : recordOf σ t ≡ running (upd (insert k v)) (Phase.Phase.Prepare p q) = rw e at (S .runs t low) in
-      let acts = step-acts small (σ .nodes) (σ .entries) c t (recordOf σ t)
-      (fits-whole small (σ .nodes) (σ .entries) (S .whole-nodes) (S .whole-entries)) low
-      (busy-record (S .own) (preparing (insert k v) p q) (recordOf σ t) tt is) in
-      prepare-words small (σ .nodes) (σ .entries) c k v p q .only
-      (ap (λ s. answerOf (actStep small (σ .nodes) (σ .entries) c t (s .op) (s .phase))) (sym is)
-      ∙ ap answerOf (sym acts) ∙ sym (left-answer (σ .register) t (stepOf small (σ .nodes) (σ .entries) c t
-      (recordOf σ t))) ∙ a)
+      let busy = busy-record (S .own) (preparing (insert k v) p q) (recordOf σ t) tt is in
+      prepare-words small (σ .nodes) (σ .entries) (σ .register .counters) k v p q .only
+      (sym (step-answer (running (upd (insert k v)) (Phase.Phase.Prepare p q)) is low busy) ∙ a)
 
   -- ---- the answer to a step
   advance-says : (m′ : Drawing) → t < 16 → Advance key val t m m′ (answer small σ (Call.Step t))

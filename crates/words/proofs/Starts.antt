@@ -4,22 +4,21 @@
 -- Not here: a busy session's step. Assumes nothing.
 use Prim.Native.Nat.{ℕ, _≤_, _<_}
 use mathlib.Core.Path.{_≡_, refl, sym, _∙_, ap, subst}
-use mathlib.Core.Logic.{_⊎_, inl, inr, ⊎-elim, _≢_}
-use mathlib.Core.Bool.{Bool, true, false, cond, _||_}
-use mathlib.Core.List.{List, [], _∷_, map}
+use mathlib.Core.Logic.{⊎-elim, _≢_}
+use mathlib.Core.Bool.{Bool, true, false, _||_}
+use mathlib.Core.List.{List, []}
 use native.Mathlib.Decide.{ℕ-discrete, decLt}
 use native.Mathlib.Omega.{arith}
-use lib.ListN.{length, getD, set, length-set}
+use lib.ListN.{set, length-set}
 use lib.Seq.{getD-set-same, getD-set-other}
-use lib.Dec.{ltb, eqb}
+use lib.Dec.{eqb}
 use borrow.Author.Tests.{lt-ltb, le-ltb, eqb-false}
-use Rattle.order.specs.Set.{Pair, insert, remove}
-use Rattle.order.specs.History.{head, tail, empty, said}
+use Rattle.order.specs.Set.{insert, remove}
+use Rattle.order.specs.History.{head, tail, empty}
 use Rattle.order.proofs.Tests.{cond-cases, ltb-cases, eqb-cases}
 use Rattle.nodes.specs.Nodes.{nextAt}
 use Rattle.terms.specs.Terms.{small, soughtOf, highOf, tailKey, outOfBounds}
 use Rattle.terms.specs.declared.Size.{Size}
-use Rattle.terms.specs.declared.Counters.{Counters}
 use Rattle.terms.specs.declared.Op
 use Rattle.terms.specs.declared.Refusal.{Refusal}
 use Rattle.terms.specs.declared.Answer.{Answer}
@@ -32,17 +31,16 @@ use Rattle.register.specs.Register.{fits, keeps, badKey, began, startOf, stepOf
 use Rattle.sixteen.specs.declared.Call.{Call}
 use Rattle.sixteen.specs.Sixteen.{Left, served, with, afterStep, sessionOf}
 use Rattle.reached.specs.Reached.{State, stampOf, recordOf, stateIn, called, go, answer, Past, note, at, InWords}
-use Rattle.drawing.specs.Phases.{Op, upd, has, range, Phase, idle, walking, numbering}
+use Rattle.drawing.specs.Phases.{Op, upd, has, range, Phase, idle, walking}
 use Rattle.drawing.specs.Drawing.{change, Drawing, now}
-use Rattle.drawing.specs.Effects.{stays, after, begun}
+use Rattle.drawing.specs.Effects.{stays, begun}
 use Rattle.drawing.specs.Steps.{Fine, starts}
 use Rattle.drawing.proofs.Change.{change-same, change-other}
 use Rattle.drawing.proofs.Keeps.{start-keeps}
-use Rattle.words.proofs.Show.{opWord, running, Runs, Cuts, HandedIn, Tells, Shown}
-use Rattle.words.proofs.Land.{noteOf, Busy, busy-record, fits-whole, Silent, refused, kept, kept-state}
+use Rattle.words.proofs.Show.{opWord, running, Runs, Cuts, HandedIn, Shown}
+use Rattle.words.proofs.Land.{noteOf, Busy, busy-record, fits-whole, refused, kept, kept-state}
 use Rattle.words.proofs.Land.{no-update, kept-past, unchanged, at-same, at-other, runs-at, handed-at}
-use Rattle.words.proofs.Land.{cuts-kept}
-use Rattle.words.proofs.Land.{NoNumber, no-number, busy-or-idle}
+use Rattle.words.proofs.Land.{cuts-kept, no-number, busy-or-idle}
 
 -- ---- what a start answers, whatever the words: started, or a refusal that is neither full nor damaged
 abbrev pub Early : Refusal → Type 0

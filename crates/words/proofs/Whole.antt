@@ -2,21 +2,16 @@
 -- every call to it does in words what the drawing does.
 -- In order: a busy session's step, by its phase; any call; reached registers; what an answer says.
 -- Not here: demand 2's own sentences (Demand2). Assumes nothing.
-use Prim.Native.Nat.{ℕ, _≤_, _<_}
-use mathlib.Core.Path.{_≡_, refl, sym, _∙_, ap, subst}
-use mathlib.Core.Logic.{_⊎_, inl, inr, ⊎-elim, _≢_}
-use mathlib.Core.List.{List}
+use Prim.Native.Nat.{ℕ, _<_}
+use mathlib.Core.Path.{_≡_, refl}
+use mathlib.Core.Logic.{_⊎_, inl, inr, ⊎-elim}
 use native.Mathlib.Decide.{decLt}
 use native.Mathlib.Omega.{arith}
-use lib.ListN.{length}
-use Rattle.order.specs.Set.{Pair, Update, insert, remove}
 use Rattle.order.specs.History.{empty}
 use Rattle.terms.specs.Terms.{small}
-use Rattle.terms.specs.declared.Refusal.{Refusal}
-use Rattle.terms.specs.declared.Answer.{Answer}
 use Rattle.sixteen.specs.declared.Call.{Call}
-use Rattle.reached.specs.Reached.{State, whoOf, answerIn, go, answer, Past, note, InWords, Reached, fresh, on}
-use Rattle.drawing.specs.Phases.{Op, Phase, idle, walking, locking, lockingCurr, checking, preparing, numbering}
+use Rattle.reached.specs.Reached.{State, go, Past, note, InWords, Reached, fresh, on}
+use Rattle.drawing.specs.Phases.{Phase, idle, walking, locking, lockingCurr, checking, preparing, numbering}
 use Rattle.drawing.specs.Phases.{linking, finishing, seeking, fixing, following, handing}
 use Rattle.drawing.specs.Drawing.{Drawing, beginning}
 use Rattle.words.proofs.Show.{Agrees, Shown, Advanced}
