@@ -1,4 +1,5 @@
--- An example against the vacuous: a register is reached by calls, an insert's last step answers inserted 1, and demand 2
+-- An example against the vacuous: a register is reached by calls, an insert's last step answers inserted 1, and
+-- demand 2
 -- tells of it what it is to tell.
 -- In order: the calls; the answers; what demand 2 says.
 -- Assumes nothing.

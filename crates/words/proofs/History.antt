@@ -202,8 +202,14 @@ module _ (key val : ℕ → ℕ) (σ : State) (h : Past) (m : Drawing) (S : Show
         let d = says-of (Answer.Inserted n) a in
         let k = d .1 .0 in
         let v = d .1 .1 in
-        let N = d .1 .3 in
-        (k, v, before n, op-is (whoOf c) (d .0) (upd (insert k v)) (d .1 .2), nth-is (whoOf c) (insert k v) n N, N .was)
+        let N = d .1 .3 in (
+          k,
+          v,
+          before n,
+          op-is (whoOf c) (d .0) (upd (insert k v)) (d .1 .2),
+          nth-is (whoOf c) (insert k v) n N,
+          N .was,
+        )
 
     pub removed-is : (n : ℕ) → answer small σ c ≡ Answer.Removed n
         → (k : ℕ) × (before : List Update) × (opOf σ (whoOf c) ≡ Op.Op.Remove k)

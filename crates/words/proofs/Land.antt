@@ -237,8 +237,8 @@ runs-at own φ φ′ s s′ e d r = rw (e, d) r
 pub handed-at : (φ φ′ : Phase) (l l′ : List Pair) → φ′ ≡ φ → l′ ≡ l → HandedIn φ l → HandedIn φ′ l′
 handed-at φ φ′ l l′ e d r = rw (e, d) r
 
-module _ (key val : ℕ → ℕ) (σ : State) (h : Past) (m : Drawing) (S : Shown small key val σ h m) (t : ℕ) (t<16 : t <
-    16)
+module _ (key val : ℕ → ℕ) (σ : State) (h : Past) (m : Drawing) (S : Shown small key val σ h m) (t : ℕ)
+    (t<16 : t < 16)
     (ns es : List ℕ) (r : Stepped) (o : Out) (f : Effect) (φ : Phase)
     (L : Landing key val σ h m t ns es r o f φ) where
   abbrev next : Drawing
@@ -341,8 +341,8 @@ pub no-number : (φ : Phase) (u : Update) (p y z c : ℕ) → φ ≡ numbering u
 no-number φ u p y z c e n = rw e at n
 
 -- ---- a step that changes the session's record alone
-module _ (key val : ℕ → ℕ) (σ : State) (h : Past) (m : Drawing) (S : Shown small key val σ h m) (t : ℕ) (t<16 : t <
-    16)
+module _ (key val : ℕ → ℕ) (σ : State) (h : Past) (m : Drawing) (S : Shown small key val σ h m) (t : ℕ)
+    (t<16 : t < 16)
     (φ₀ : Phase) (here : m .phase t ≡ φ₀) where
   abbrev pub Same : Session → Answer → Stepped
   Same s a = record { counters = σ .register .counters; session = s; answer = a }

@@ -141,8 +141,8 @@ module _ (key val : ℕ → ℕ) (σ : State) (h : Past) (m : Drawing) (S : Show
       is = rw e at (S .runs t t<16)
 
   -- ---- has's Follow, where its newest entry leads to q
-  module _ (k x q : ℕ) (e : m .phase t ≡ seeking k x) (answer : readNewest (shown (m .bundle x))
-      ≡ found (some q)) where
+  module _ (k x q : ℕ) (e : m .phase t ≡ seeking k x)
+      (answer : readNewest (shown (m .bundle x)) ≡ found (some q)) where
     seek-below : x < c .nodes
     seek-below = named-below key val σ h m S t (seeking k x) e x refl
 
@@ -199,8 +199,8 @@ module _ (key val : ℕ → ℕ) (σ : State) (h : Past) (m : Drawing) (S : Show
       quietly (fixing low high p) e tt tt (running (range low high) (Phase.Phase.Fix p))
       (running (range low high) (Phase.Phase.Follow p (now empty m) 0)) working
       (following low high p (now empty m) []) (rw e at (S .runs t t<16))
-      (ap (λ s. done (σ .nodes) (σ .entries) (works c (Op.Op.Range low high) (Phase.Phase.Follow p s 0))) (S
-      .stamp))
+      (ap (λ s. done (σ .nodes) (σ .entries) (works c (Op.Op.Range low high) (Phase.Phase.Follow p s 0)))
+      (S .stamp))
       (fix-it low high p e) refl (handed-here (fixing low high p) e)
 
   -- ---- Follow, where the entry taken leads to q
@@ -291,8 +291,8 @@ module _ (key val : ℕ → ℕ) (σ : State) (h : Past) (m : Drawing) (S : Show
 
     pub hand-advances : Advanced key val σ h m t
     hand-advances =
-        quietly (handing low high x s given) e tt tt (running (range low high) (Phase.Phase.Hand x s (length
-        given)))
+        quietly (handing low high x s given) e tt tt
+        (running (range low high) (Phase.Phase.Hand x s (length given)))
         (running (range low high) (Phase.Phase.Follow x s (length given + 1))) (key-value (key x) (val x))
         (following low high x s (given ++ (entry key val x ∷ []))) (rw e at (S .runs t t<16))
         (ap (done (σ .nodes) (σ .entries)) (sym (Ways.hands small (σ .nodes) c (Op.Op.Range low high) x s
