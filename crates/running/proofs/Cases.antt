@@ -53,7 +53,7 @@ whole-lines = refl
 
 -- ---- what a run leaves, by what its lines print
 
-end-of : (out : List ℕ) (r : Ran) → endOf (finished (writeAt out 0 r)) ≡ Ended.Length (length (printed r))
+pub end-of : (out : List ℕ) (r : Ran) → endOf (finished (writeAt out 0 r)) ≡ Ended.Length (length (printed r))
 unfolding writeAt
 end-of out (ran ns es bytes) = rw zero-add
 

@@ -5,3 +5,4 @@ pub mod Whole
 pub mod Only
 pub mod Cases
 pub mod Refusals
+pub mod Enough
