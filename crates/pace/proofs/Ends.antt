@@ -45,7 +45,7 @@ module _ (key val : ℕ → ℕ) (start : Start) (m : Drawing) (q low high : ℕ
   abbrev pub Ends : Out → Effect → Phase → Type 0
   Ends o f φ = (s : ℕ) × (handed : List Pair) × (o ≡ ended s handed) × (f ≡ stays) × (φ ≡ idle)
 
-  end-step : {o : Out} {f : Effect} {φ : Phase} → Step key val start q m o f φ →
+  pub end-step : {o : Out} {f : Effect} {φ : Phase} → Step key val start q m o f φ →
       ¬ Open q low high (after start m q f φ) → Ends o f φ
   end-step (walk-on op p c e h) shut =
       goes (walk-on op p c e h) (task-stays key val start m q (walk-on op p c e h)) shut

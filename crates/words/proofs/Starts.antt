@@ -1,6 +1,6 @@
 -- Calls that begin an operation or are refused: a start, accepted or not; a step of an idle session or of none.
--- In order: what a start answers; a start refused; the drawing's operation; a start accepted; any start; a step
--- refused.
+-- In order: what a start answers; a start refused; the drawing's operation; a start accepted; any start, and what it
+-- leaves of the drawing; a step refused.
 -- Not here: a busy session's step. Assumes nothing.
 use Prim.Native.Nat.{ℕ, _≤_, _<_}
 use mathlib.Core.Path.{_≡_, refl, sym, _∙_, ap, subst}
@@ -34,7 +34,7 @@ use Rattle.reached.specs.Reached.{State, stampOf, recordOf, stateIn, called, go
 use Rattle.drawing.specs.Phases.{Op, upd, has, range, Phase, idle, walking}
 use Rattle.drawing.specs.Drawing.{change, Drawing, now}
 use Rattle.drawing.specs.Effects.{stays, begun}
-use Rattle.drawing.specs.Steps.{Fine, starts}
+use Rattle.drawing.specs.Steps.{Fine, Starts, starts}
 use Rattle.drawing.proofs.Change.{change-same, change-other}
 use Rattle.drawing.proofs.Keeps.{start-keeps}
 use Rattle.words.proofs.Show.{opWord, running, Runs, Cuts, HandedIn, Shown}
@@ -119,6 +119,12 @@ module _ (key val : ℕ → ℕ) (low : key head ≡ 0) (high : key tail ≡ tai
   drawn (Op.Op.Range a b) bad order w w₂ = let c = key-bounds (Op.Op.Range a b) bad in
       (range a b, refl, (omega (arith, c .0 .0, low), order, omega (arith, c .1 .1, w₂, high)))
 
+-- ---- a start in the drawing: refused without effect, or the session begins its walk
+pub data Begun (key val : ℕ → ℕ) (t : ℕ) (op : Op.Op) (m m′ : Drawing) (a : Answer) : Type 0 where
+  not-begun : (why : Refusal) → m′ ≡ m → a ≡ Answer.Refused why → Begun key val t op m m′ a
+  has-begun : (d : Op) → opWord d ≡ op → Starts key val t m (walking d head (m .plain head))
+      → m′ ≡ begun empty m t (walking d head (m .plain head)) → Begun key val t op m m′ a
+
 -- nothing is handed out yet
 handed-walk : (d : Op) (p q : ℕ) → HandedIn (walking d p q) []
 handed-walk (upd u) p q = tt
@@ -132,6 +138,7 @@ module _ (key val : ℕ → ℕ) (σ : State) (h : Past) (m : Drawing) (S : Show
   abbrev Shows : Op.Op → Started → Type 0
   Shows op r = (m′ : Drawing)
       × Shown small key val (stateIn (leaves r)) (noteOf σ (Call.Start who op) h (leaves r)) m′
+      × Begun key val who op m m′ (r .answer)
 
   -- ---- refused
   refused-shows : (op : Op.Op) (why : Refusal) → Shows op (keeps (recordOf σ who) why)
@@ -141,6 +148,7 @@ module _ (key val : ℕ → ℕ) (σ : State) (h : Past) (m : Drawing) (S : Show
       kept-state σ who (Answer.Refused why),
       kept-past σ (Call.Start who op) h (Answer.Refused why) refused,
     ) S,
+    not-begun why refl refl,
   )
 
   -- ---- accepted: pred is the head, and curr its plain next
@@ -187,8 +195,8 @@ module _ (key val : ℕ → ℕ) (σ : State) (h : Past) (m : Drawing) (S : Show
         (λ k p x z c e. absurd (no-number idle (remove k) p x z c (sym quiet ∙ e) tt)) in
         record { cuts = C .cuts; once = C .once; in-use = C .in-use; cut = C .cut; count = C .count }
 
-    start-shows : (op : Op.Op) → Shows op start
-    start-shows op = (
+    start-shows : (op : Op.Op) → opWord d ≡ op → Shows op start
+    start-shows op e = (
       begun empty m who φ,
       record {
         inv = start-keeps key val empty m (S .inv) who (starts d quiet fine);
@@ -218,6 +226,7 @@ module _ (key val : ℕ → ℕ) (σ : State) (h : Past) (m : Drawing) (S : Show
           handed = start-handed;
         };
       },
+      has-begun d e (starts d quiet fine) refl,
     )
 
   -- a session whose record is not busy is idle
@@ -234,13 +243,18 @@ module _ (key val : ℕ → ℕ) (σ : State) (h : Past) (m : Drawing) (S : Show
       subst (λ o. Shows op (record {
         session = record { op = o; phase = Phase.Phase.Walk 0 (nextAt (σ .nodes) 0) };
         answer = Answer.Started;
-      })) (d .1) (start-shows low (phase-idle low calm) (d .0) (d .2) op))
+      })) (d .1) (start-shows low (phase-idle low calm) (d .0) (d .2) op (d .1)))
 
   -- ---- ANY START
+  pub start-begun : (op : Op.Op) → InWords (Call.Start who op) → (m′ : Drawing)
+      × Shown small key val (go small σ (Call.Start who op)) (note small σ (Call.Start who op) h) m′
+      × Begun key val who op m m′ (answer small σ (Call.Start who op))
+  start-begun op words = start-cases (Shows op) small (σ .nodes) (σ .entries) who (recordOf σ who) op
+      (λ why _. refused-shows op why) (began-shows op words)
+
   pub start-shown : (op : Op.Op) → InWords (Call.Start who op) → (m′ : Drawing)
       × Shown small key val (go small σ (Call.Start who op)) (note small σ (Call.Start who op) h) m′
-  start-shown op words = start-cases (Shows op) small (σ .nodes) (σ .entries) who (recordOf σ who) op
-      (λ why _. refused-shows op why) (began-shows op words)
+  start-shown op words = let d = start-begun op words in (d .0, d .1)
 
   -- ---- A STEP OF AN IDLE SESSION, OR OF NONE
   idle-record : who < 16 → m .phase who ≡ idle → busyOf (recordOf σ who) ≡ false
