@@ -61,9 +61,9 @@ module _ (key val : ℕ → ℕ) where
   dec-agrees σ = elim (both
       (dec-below (λ x. keyAt (σ .nodes) x ≡ key x) (λ x. ℕ-discrete (keyAt (σ .nodes) x) (key x)) (usedOf σ))
       (dec-below (λ x. valueAt (σ .nodes) x ≡ val x) (λ x. ℕ-discrete (valueAt (σ .nodes) x) (val x)) (usedOf σ))) [
-    | yes a ↦ yes (record { keyed = a .0; valued = a .1 })
-    | no n ↦ no (λ a. n (a .keyed, a .valued))
-  ]
+        | yes a ↦ yes (record { keyed = a .0; valued = a .1 })
+        | no n ↦ no (λ a. n (a .keyed, a .valued))
+      ]
 
   abbrev Fits : State → Call → Type 0
   Fits σ c = InWords c × AgreesIn (go small σ c)

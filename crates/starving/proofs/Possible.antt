@@ -1,6 +1,6 @@
 -- Demand 3 is not empty: its premise can be met at every reached register, and a query really waits and ends in time.
--- In order: round robin over the sixteen sessions is fair for each window of at least 16; demand 3 of it; an example in
--- which the query waits, by computing; document 01's whole case, in which its second range does.
+-- In order: round robin over the sixteen sessions is fair for each window of at least 16; demand 3 of it; an example
+-- in which the query waits, by computing; document 01's whole case, in which its second range does.
 -- Not here: the demand. Assumes nothing.
 use Prim.Native.Nat.{ℕ, zero, suc, _+_, _*_, _%_, _≤_}
 use mathlib.Core.Path.{_≡_, refl}
@@ -101,8 +101,8 @@ prepared = after (go small) begin (Call.Start 0 (Op.Insert 20 7) ∷ replicate 4
 abbrev pub asked : State
 asked = go small prepared (Call.Start 1 (Op.Range 1 100))
 
--- served in turn from session 1 on, it arrives, fixes its snapshot behind Number, waits once, follows, hands 20 out and
--- ends: 81 calls, of which 9 are counted steps, where 144 are allowed
+-- served in turn from session 1 on, it arrives, fixes its snapshot behind Number, waits once, follows, hands 20 out
+-- and ends: 81 calls, of which 9 are counted steps, where 144 are allowed
 pub in-turn-waits : answer small (after (go small) asked (round 1 32)) (Call.Step 1) ≡ Answer.Waiting
 unfolding opened-up
 in-turn-waits = refl
@@ -130,7 +130,22 @@ calls-reach σ r (c ∷ calls) words = calls-reach (go small σ c) (_, on (r .1)
 
 prepared-reached : Reaches prepared
 prepared-reached = calls-reach begin (noPast, begin-reached)
-    (Call.Start 0 (Op.Insert 20 7) ∷ replicate 4 (Call.Step 0)) ((omega arith, omega arith), (tt, (tt, (tt, (tt, tt)))))
+    (Call.Start 0 (Op.Insert 20 7) ∷ replicate 4 (Call.Step 0)) (
+      (omega arith, omega arith),
+      (
+        tt,
+        (
+          tt,
+          (
+            tt,
+            (
+              tt,
+              tt,
+            ),
+          ),
+        ),
+      ),
+    )
 
 asked-started : answer small prepared (Call.Start 1 (Op.Range 1 100)) ≡ Answer.Started
 unfolding opened-up
