@@ -20,7 +20,7 @@ use Rattle.drawing.specs.Phases.{Phase, idle, walking, locking, lockingCurr, ch
 use Rattle.drawing.specs.Phases.{linking, finishing, seeking, fixing, following, handing}
 use Rattle.drawing.specs.Drawing.{Owned, final, pending, shown, Drawing, now}
 use Rattle.drawing.specs.Effects.{Effect}
-use Rattle.drawing.specs.Steps.{Out, Step, WaitsIn}
+use Rattle.drawing.specs.Steps.{Out, Step}
 use Rattle.drawing.specs.Steps.{walk-on, walk-arrive, lock-pred, lock-curr, check-again, check-present}
 use Rattle.drawing.specs.Steps.{check-absent, check-pass, prepare-full, prepare-insert, prepare-remove}
 use Rattle.drawing.specs.Steps.{number-it, link-it, finish-it, seek-on, seek-present, seek-absent, fix-it}
@@ -28,6 +28,7 @@ use Rattle.drawing.specs.Steps.{follow-on, follow-in, follow-end, hand-out}
 use Rattle.drawing.proofs.Inv.{Pends, Facts, Inv}
 use Rattle.drawing.proofs.Goes.{read-wait}
 use Rattle.drawing.proofs.Room.{pends-used}
+use Rattle.pace.specs.Turns.{HeldUp}
 use Rattle.pace.proofs.Stage.{debt, owing}
 
 -- ---- bounds
@@ -125,7 +126,7 @@ pub debt-busy : (s : ℕ) (φ : Phase) → 0 < debt s φ → φ ≢ idle
 unfolding debt
 debt-busy s φ h e = omega (arith, ap (debt s) e)
 
-pub debt-no-wait : (t : ℕ) (m : Drawing) (s : ℕ) (φ : Phase) → 0 < debt s φ → ¬ WaitsIn t m φ
+pub debt-no-wait : (t : ℕ) (m : Drawing) (s : ℕ) (φ : Phase) → 0 < debt s φ → ¬ HeldUp t m φ
 unfolding debt
 debt-no-wait t m s idle h w = w
 debt-no-wait t m s (walking op p q) h w = w

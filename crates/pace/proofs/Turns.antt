@@ -21,7 +21,7 @@ use Rattle.drawing.specs.Phases.{arrived, task}
 use Rattle.drawing.specs.Drawing.{change, shown, Drawing, now}
 use Rattle.drawing.specs.Effects.{Effect, stays, holds, leaves, lays, numbers, links, finishes, after}
 use Rattle.drawing.specs.Effects.{gaveTo, givenBy}
-use Rattle.drawing.specs.Steps.{Out, starts, Step, WaitsIn, Waits}
+use Rattle.drawing.specs.Steps.{Out, starts, Step}
 use Rattle.drawing.specs.Steps.{walk-on, walk-arrive, lock-pred, lock-curr, check-again, check-present}
 use Rattle.drawing.specs.Steps.{check-absent, check-pass, prepare-full, prepare-insert, prepare-remove}
 use Rattle.drawing.specs.Steps.{number-it, link-it, finish-it, seek-on, seek-present, seek-absent, fix-it}
@@ -33,7 +33,7 @@ use Rattle.drawing.proofs.Keeps.{high-bound, read-right, step-grants}
 use Rattle.drawing.proofs.Room.{Covers, on-used, given-covered}
 use Rattle.fairness.specs.Reader
 use Rattle.fairness.specs.Reader.{Stage, Moves, moves, arrives, skips, finds, hands, Fixes, behind, by-head}
-use Rattle.pace.specs.Turns.{Turn, refused, starting, waiting, stepping, Open, Busy}
+use Rattle.pace.specs.Turns.{HeldUp, Turn, refused, starting, waiting, stepping, Open, Busy}
 use Rattle.pace.proofs.Stage.{ahead-unique, stageIn, stageOf, stage-kept, stage-in, debt, owing}
 use Rattle.pace.proofs.Debt.{Falls, paid, walking-paid, step-falls, debt-no-wait, wait-owed, owing-falls}
 use Rattle.pace.proofs.Debt.{owing-debt}
@@ -125,7 +125,7 @@ module _ (key val : ℕ → ℕ) (start : Start) (zeroth : key head ≡ 0) (q lo
 
     -- ---- A STEP OF ANOTHER
     -- who owes does not wait
-    owes-no-wait : (i : ℕ) → 0 < owesIn m i → ¬ Waits i m
+    owes-no-wait : (i : ℕ) → 0 < owesIn m i → ¬ HeldUp i m (m .phase i)
     owes-no-wait i h w =
         let d = owing-debt (m .phase q) (m .phase i) h in debt-no-wait i m (d .0) (m .phase i) (d .1) w
 
@@ -161,7 +161,7 @@ module _ (key val : ℕ → ℕ) (start : Start) (zeroth : key head ≡ 0) (q lo
         (r .0, r .1, r .2, pays)
 
     -- ---- the reader waits: for a session that owes it
-    waits-for : (φ : Phase) → task φ ≡ some (range low high) → WaitsIn q m φ → (i : ℕ) × (0 < owing φ (m .phase i))
+    waits-for : (φ : Phase) → task φ ≡ some (range low high) → HeldUp q m φ → (i : ℕ) × (0 < owing φ (m .phase i))
     unfolding owing
     waits-for idle e w = absurd w
     waits-for (walking op p c) e w = absurd w
@@ -379,7 +379,7 @@ module _ (key val : ℕ → ℕ) (start : Start) (zeroth : key head ≡ 0) (q lo
     own-turn refused I′ e still = none-some e
     own-turn (starting t s) I′ e still = none-some e
     own-turn (waiting t w) I′ e still =
-        let w′ : Waits q m = rw (some-same refl e) at w in
+        let w′ : HeldUp q m (m .phase q) = rw (some-same refl e) at w in
         let d = waits-for (m .phase q) is-open w′ in
         own-wait (stage-kept key val start m m (λ s _. refl) q I I′ refl) refl (λ i. omega arith) (d .0) (d .1)
     own-turn (stepping t {o = a} {f = f} {φ = φ} s) I′ e still = subst

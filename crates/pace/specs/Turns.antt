@@ -1,5 +1,5 @@
 -- What one call may do to a drawing and to the nodes given: nothing, a start, a wait, or a step.
--- In order: a call's turn; anything that goes on as a drawing does; a query that is open, and
+-- In order: when a step waits; a call's turn; anything that goes on as a drawing does; a query that is open, and
 -- sessions that are busy.
 -- The nodes given leave out the head and the tail; the starting nodes are among them.
 -- Not here: calls themselves (crate fairness, and the register). Assumes nothing.
@@ -12,16 +12,20 @@ use Rattle.order.specs.History.{Start}
 use Rattle.drawing.specs.Phases.{range, Phase, idle, task}
 use Rattle.drawing.specs.Drawing.{Drawing}
 use Rattle.drawing.specs.Effects.{Effect, givenBy, after, begun}
-use Rattle.drawing.specs.Steps.{Out, Starts, Step, Waits}
+use Rattle.drawing.specs.Steps.{Out, Starts, Step, WaitsIn}
 use Rattle.drawing.proofs.Inv.{Inv}
 use Rattle.drawing.proofs.Room.{Covers}
+
+-- ---- when the step of a session in this phase waits
+abbrev pub HeldUp : ℕ → Drawing → Phase → Type 0
+HeldUp t m φ = WaitsIn t m φ
 
 -- ---- a call's turn: whose counted step it is, if it is one, and what it leaves
 pub data Turn (key val : ℕ → ℕ) (start : Start) (m : Drawing) (given : List ℕ) :
     Option ℕ → Drawing → List ℕ → Type 0 where
   refused : Turn key val start m given none m given
   starting : (t : ℕ) {φ : Phase} → Starts key val t m φ → Turn key val start m given none (begun start m t φ) given
-  waiting : (t : ℕ) → Waits t m → Turn key val start m given (some t) m given
+  waiting : (t : ℕ) → HeldUp t m (m .phase t) → Turn key val start m given (some t) m given
   stepping : (t : ℕ) {o : Out} {f : Effect} {φ : Phase} → Step key val start t m o f φ →
       Turn key val start m given (some t) (after start m t f φ) (givenBy f given)
 

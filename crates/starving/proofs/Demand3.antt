@@ -1,7 +1,7 @@
 -- DEMAND 3: no range query is starved; and the sharper bound.
 -- In order: calls to a register with its drawing, at a query's start: fair while it is open; while it is open, or by
--- its end; the call that ends it; the sharper bound. Then that register, by key and value functions from the words at
--- the end of the calls; the demand, and the sharper bound.
+-- its end; the call that ends it; the sharper bound. Then that register, by key and value functions from the words
+-- at the end of the calls; the demand, and the sharper bound.
 -- Not here: the demand's sentences (crate reached). Assumes nothing.
 use Prim.Native.Nat.{ℕ, _+_, _*_, _≤_, _<_}
 use mathlib.Core.Path.{_≡_, refl, sym, _∙_, ap, subst}
@@ -29,8 +29,7 @@ use Rattle.pace.proofs.Project.{after-project, along-up, steps-project, fair-up
 use Rattle.starving.proofs.Live.{Live, reached-live, Walks, begins}
 use Rattle.starving.proofs.Where.{along-where, fair-where, open-or-ended-where}
 use Rattle.starving.proofs.Above.{AgreesIn, Above, live, below, drawingOf, nodesIn, Good, goes, goes-below}
-use Rattle.starving.proofs.Above.{whoseTurn, draws, above-opens, opens-above, above-busy, above-few}
-use Rattle.starving.proofs.Above.{above-ends}
+use Rattle.starving.proofs.Above.{whoseTurn, draws, above-opens, opens-above, above-busy, above-few, above-ends}
 use Rattle.starving.proofs.Above.{agrees-first, good-along}
 
 more-nodes : (w a n : ℕ) → a ≤ n → w * (3 * a + 6) ≤ w * (3 * n + 6)

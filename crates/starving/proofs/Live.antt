@@ -12,7 +12,7 @@ use native.Mathlib.Omega.{arith}
 use lib.ListN.{length}
 use Rattle.order.specs.Set.{insert, remove}
 use Rattle.order.specs.History.{head, tail, empty}
-use Rattle.terms.specs.Terms.{small, tailKey}
+use Rattle.terms.specs.Terms.{small}
 use Rattle.terms.specs.declared.Op
 use Rattle.terms.specs.declared.Refusal.{Refusal}
 use Rattle.terms.specs.declared.Answer.{Answer}
@@ -31,7 +31,7 @@ use Rattle.drawing.proofs.Change.{change-same, change-other}
 use Rattle.drawing.proofs.Inv.{Inv}
 use Rattle.drawing.proofs.Room.{distinct-length, used-below, on-used}
 use Rattle.drawing.proofs.Given.{Listed, listed-step, listed-start, listed-beginning, nodesOf, nodes-length, nodes-mem}
-use Rattle.words.proofs.Show.{Agrees, opWord, Shown, outWord, Advance, waited, stepped, Advanced}
+use Rattle.words.proofs.Show.{Agrees, opWord, Shown, outWord, waited, stepped, Advanced}
 use Rattle.words.proofs.Land.{usedOf}
 use Rattle.words.proofs.Back.{agree-back}
 use Rattle.words.proofs.Fresh.{fresh-shows}

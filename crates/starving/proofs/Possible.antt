@@ -20,7 +20,7 @@ use Rattle.register.specs.Register.{fits, freshNodes, freshEntries, freshCounte
 use Rattle.register.specs.Register.{stepOf}
 use Rattle.sixteen.specs.Sixteen.{freshRegister}
 use Rattle.sixteen.specs.declared.Call.{Call}
-use Rattle.reached.specs.Reached.{State, go, answer, Past, noPast, note, InWords, Reached, fresh, on}
+use Rattle.reached.specs.Reached.{State, go, answer, Past, noPast, InWords, Reached, fresh, on}
 use Rattle.reached.specs.Fair.{whose, Busy, Open, given, AllInWords, begun, FairFor, InTime, EndsWell}
 use Rattle.fairness.specs.Calls.{after, Along, steps, Fair}
 use Rattle.fairness.specs.Robin.{robin, Counts}
@@ -130,22 +130,8 @@ calls-reach σ r (c ∷ calls) words = calls-reach (go small σ c) (_, on (r .1)
 
 prepared-reached : Reaches prepared
 prepared-reached = calls-reach begin (noPast, begin-reached)
-    (Call.Start 0 (Op.Insert 20 7) ∷ replicate 4 (Call.Step 0)) (
-      (omega arith, omega arith),
-      (
-        tt,
-        (
-          tt,
-          (
-            tt,
-            (
-              tt,
-              tt,
-            ),
-          ),
-        ),
-      ),
-    )
+    (Call.Start 0 (Op.Insert 20 7) ∷ replicate 4 (Call.Step 0))
+    ((omega arith, omega arith), (tt, (tt, (tt, (tt, tt)))))
 
 asked-started : answer small prepared (Call.Start 1 (Op.Range 1 100)) ≡ Answer.Started
 unfolding opened-up

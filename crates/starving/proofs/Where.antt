@@ -1,6 +1,6 @@
--- Calls while something holds of the states: what is said of them in one way is said in another that is the same
--- there.
--- In order: along calls; fair calls; open or ended, with a bound that is no less. Assumes nothing.
+-- Calls while something holds of the states: what is said of them in one way is said in another, the same there.
+-- In order: along calls; fair calls; open or ended, with a bound that is no less.
+-- Assumes nothing.
 use Prim.Native.Nat.{ℕ, _≤_}
 use mathlib.Core.Logic.{inl, inr}
 use mathlib.Core.Option.{Option}
@@ -9,8 +9,8 @@ use native.Mathlib.Omega.{arith}
 use Rattle.fairness.specs.Calls.{after, Along, FairWhile, Ended, OpenOrEnded}
 use Rattle.fairness.proofs.Along.{along-here, along-last, along-map, along-both, along-front, along-rest}
 
-module _ {State Call : Type 0} (go : State → Call → State) (who : State → Call → Option ℕ) (Good : State
-    → Type 0) where
+module _ {State Call : Type 0} (go : State → Call → State) (who : State → Call → Option ℕ)
+    (Good : State → Type 0) where
   pub along-where : (P Q : State → Type 0) → ((σ : State) → Good σ → P σ → Q σ) → (σ : State) (cs : List Call)
       → Along go Good σ cs → Along go P σ cs → Along go Q σ cs
   along-where P Q f σ cs good a =
