@@ -2,7 +2,7 @@
 -- In order: the node before the tail; the tables; fresh ones; one key more.
 -- Not here: the calls (Filing). Assumes nothing.
 use Prim.Native.Nat.{ℕ, _+_, _*_, _≤_, _<_}
-use mathlib.Core.Path.{_≡_, refl, sym, _∙_}
+use mathlib.Core.Path.{_≡_, sym, _∙_}
 use mathlib.Core.Logic.{_≢_}
 use mathlib.Core.Bool.{true}
 use mathlib.Core.List.{List}
@@ -16,7 +16,7 @@ use Rattle.terms.specs.declared.Size.{Size}
 use Rattle.register.specs.Register.{fits, freshNodes, freshEntries}
 use Rattle.loading.specs.Filing.{used, predOf}
 use Rattle.loading.proofs.Words.{pred-below, pred-key}
-use Rattle.loading.proofs.Refusals.{fits-lengths, lengths-fit}
+use Rattle.loading.proofs.Refusals.{lengths-fit}
 use Rattle.loading.proofs.Stores.{nodesWith, entriesWith, pred-next, filed-length, entries-length, filed-off}
 use Rattle.loading.proofs.Stores.{filed-next, filed-own-newest, filed-own-key, filed-own-next, filed-own-lock}
 use Rattle.loading.proofs.Stores.{filed-own-removed, entry-own-final, fresh-nodes-length, fresh-entries-length}

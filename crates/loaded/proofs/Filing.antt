@@ -2,7 +2,7 @@
 -- In order: the lock forgotten; what Prepare lays; the walk; the seven steps; one insert; all of them.
 -- Not here: listings (Loaded). Assumes nothing.
 use Prim.Native.Nat.{ℕ, zero, suc, _+_, _-_, _*_, _≤_, _<_}
-use mathlib.Core.Path.{_≡_, refl, sym, _∙_, ap}
+use mathlib.Core.Path.{_≡_, refl, _∙_, ap}
 use mathlib.Core.Logic.{_≢_}
 use mathlib.Core.Bool.{true}
 use mathlib.Core.List.{List, [], _∷_, _++_}
@@ -12,11 +12,11 @@ use lib.Seq.{set-set, set-comm}
 use borrow.Author.Tests.{lt-ltb, le-leb, ne-eqb}
 use Rattle.table.specs.Table.{storeOf}
 use Rattle.table.proofs.Laws.{store-length}
-use Rattle.order.specs.Set.{Update, insert}
-use Rattle.bundle.specs.Bundle.{wordAt, heldOf, layOf, finishOf}
+use Rattle.order.specs.Set.{insert}
+use Rattle.bundle.specs.Bundle.{heldOf, layOf, finishOf}
 use Rattle.bundle.specs.declared.Held.{Held}
 use Rattle.bundle.proofs.Promise.{lay-length}
-use Rattle.nodes.specs.Nodes.{nodeAt, putNode, keyAt, nextAt, lockAt, removedAt, newestAt, unlocked, newNode}
+use Rattle.nodes.specs.Nodes.{nodeAt, putNode, keyAt, nextAt, newestAt, unlocked, newNode}
 use Rattle.nodes.specs.Nodes.{namedNode, clearNode}
 use Rattle.terms.specs.Terms.{tailKey}
 use Rattle.terms.specs.declared.Size.{Size}
@@ -25,17 +25,17 @@ use Rattle.terms.specs.declared.Op.{Op}
 use Rattle.terms.specs.declared.Answer.{Answer}
 use Rattle.steps.specs.declared.Phase.{Phase}
 use Rattle.steps.specs.declared.Session.{Session}
-use Rattle.steps.specs.Steps.{done, Tables, tables, idle, works, counted, raised, ends, layIn, insertLaid, heldAt}
+use Rattle.steps.specs.Steps.{done, Tables, tables, idle, counted, raised, layIn, insertLaid, heldAt}
 use Rattle.register.specs.Register.{fits}
 use Rattle.sixteen.specs.declared.Call.{Call}
 use Rattle.reached.specs.Reached.{State}
 use Rattle.listing.specs.Listing.{rising}
 use Rattle.listing.proofs.Pairs.{rising-on}
-use Rattle.loading.specs.Filing.{used, predOf, preparedNodes, filedNodes, filedEntries, filed, filedAll}
+use Rattle.loading.specs.Filing.{used, predOf, preparedNodes, filedNodes, preparedEntries}
+use Rattle.loading.specs.Filing.{filedEntries, filedAll}
 use Rattle.loading.proofs.Words.{pred-below}
 use Rattle.loading.proofs.Refusals.{lengths-fit}
 use Rattle.loading.proofs.Stores.{nodesIn, entriesIn, nodesWith, entriesWith, pred-next, put-off, new-off, new-newest}
-use Rattle.loading.proofs.Stores.{new-length}
 use Rattle.loaded.specs.Calls.{inserting, filing, insertedSo, filedSo, inserts, alone, Goes}
 use Rattle.loaded.proofs.Goes.{goes-none, goes-then, goes-as}
 use Rattle.loaded.proofs.Steps.{at, starts, steps-on, steps-numbered, walk-moves, walk-arrives, locks, checks}
@@ -272,7 +272,7 @@ module _ (z : Size) (i top k v : ℕ) (ns es : List ℕ) (F : Filed z i top ns e
   nodes-filed = lock-forgotten (used i) p k v low ns
 
   entries-filed : finishOf (finishOf laidEntries (2 * i + 1) (i + 1)) (2 * i + 1 + 1) (i + 1) ≡ entriesWith i ns es
-  unfolding filedEntries
+  unfolding filedEntries preparedEntries
   entries-filed = refl
 
   sets-out : Goes z (alone ns es (used i) idle) (Call.Start 0 op ∷ []) (alone ns es (used i) (walkAt 0))

@@ -1,8 +1,8 @@
 -- What calls do, put together: no calls, one call after the other, one call.
 -- In order: calls after calls; going on; a call that numbers nothing, and one that numbers; reached registers.
 -- Assumes nothing.
-use Prim.Native.Nat.{ℕ, _+_, _≤_, _<_}
-use mathlib.Core.Path.{_≡_, refl, sym, _∙_, ap}
+use Prim.Native.Nat.{ℕ, _<_}
+use mathlib.Core.Path.{_≡_, refl, _∙_, ap}
 use mathlib.Core.List.{List, [], _∷_, _++_, append-assoc}
 use native.Mathlib.Omega.{arith}
 use borrow.Author.Tests.{lt-ltb, le-ltb}
@@ -11,10 +11,10 @@ use Rattle.terms.specs.declared.Size.{Size}
 use Rattle.terms.specs.declared.Answer.{Answer}
 use Rattle.terms.specs.declared.Op.{Op}
 use Rattle.sixteen.specs.declared.Call.{Call}
-use Rattle.sixteen.specs.Sixteen.{Left, served}
+use Rattle.sixteen.specs.Sixteen.{Left}
 use Rattle.fairness.specs.Calls.{after}
 use Rattle.reached.specs.Reached.{State, stampOf, opOf, whoOf, stateIn, answerIn, called, go, answer, Past, note}
-use Rattle.reached.specs.Reached.{InWords, Reached, on}
+use Rattle.reached.specs.Reached.{Reached, on}
 use Rattle.reached.specs.Fair.{AllInWords}
 use Rattle.loaded.specs.Calls.{pastAfter, answers, Goes}
 

@@ -3,15 +3,15 @@
 -- In order: a size with room; what loading answers; the calls' keys; the theorem, for any size; reached; the set; the
 -- same for document 01's size; P12.
 -- Assumes nothing.
-use Prim.Native.Nat.{ℕ, zero, suc, _+_, _*_, _≤_}
+use Prim.Native.Nat.{ℕ, zero, suc, _+_, _≤_}
 use mathlib.Core.Path.{_≡_, refl, sym, _∙_, ap}
 use mathlib.Core.Bool.{Bool, true, false, cond}
 use mathlib.Core.List.{List, [], _∷_, _++_, append-nil}
 use native.Mathlib.Omega.{arith}
 use lib.ListN.{length, replicate}
-use Rattle.order.specs.Set.{Pair, keyOf, Rises, setAfter}
+use Rattle.order.specs.Set.{keyOf, Rises, setAfter}
 use Rattle.order.proofs.Sets.{set-rises}
-use Rattle.terms.specs.Terms.{small, tailKey}
+use Rattle.terms.specs.Terms.{small}
 use Rattle.terms.specs.declared.Size.{Size}
 use Rattle.terms.specs.declared.Counters.{Counters}
 use Rattle.terms.specs.declared.Refusal.{Refusal}
@@ -21,13 +21,12 @@ use Rattle.register.specs.Register.{fits, freshNodes, freshEntries, freshCounte
 use Rattle.register.specs.Register.{opened as fresh-opened}
 use Rattle.sixteen.specs.declared.Call.{Call}
 use Rattle.sixteen.specs.Sixteen.{freshRegister}
-use Rattle.reached.specs.Reached.{State, Past, noPast, Reached, fresh}
+use Rattle.reached.specs.Reached.{Past, noPast, Reached, fresh}
 use Rattle.reached.specs.Fair.{AllInWords}
 use Rattle.text.specs.Text.{classOf, withDigit, grow, grows, numberIn, ends, linesOf, startsWith, fieldIn}
 use Rattle.text.proofs.Basics.{impossible}
 use Rattle.listing.specs.Listing.{rising}
 use Rattle.listing.proofs.Pairs.{rising-on, good-is, good-counts, good-fit}
-use Rattle.scanning.specs.Refusals.{IsListing}
 use Rattle.scanning.specs.Reading.{numbersIn}
 use Rattle.scanning.proofs.Cases.{empty-read}
 use Rattle.scanning.proofs.Trip.{keys-back, values-back}

@@ -1,17 +1,17 @@
 -- The steps of session 0's insert where nothing is in its way: each phase over plain values.
 -- In order: a start and a step of session 0; Walk; Lock; Check; Prepare; Number; Link; Finish.
 -- Not here: which tables are so (Filed). Assumes nothing.
-use Prim.Native.Nat.{ℕ, _+_, _-_, _*_, _≤_, _<_}
-use mathlib.Core.Path.{_≡_, refl, sym, _∙_, ap}
+use Prim.Native.Nat.{ℕ, _+_, _≤_, _<_}
+use mathlib.Core.Path.{_≡_, refl}
 use mathlib.Core.Logic.{_≢_}
-use mathlib.Core.Bool.{Bool, true, false, _&&_}
+use mathlib.Core.Bool.{true}
 use mathlib.Core.List.{List, [], _∷_}
 use native.Mathlib.Omega.{arith}
 use lib.ListN.{replicate}
-use borrow.Author.Tests.{lt-ltb, le-ltb, le-leb, eq-eqb, ne-eqb}
-use Rattle.bundle.specs.Bundle.{wordAt, heldOf, layOf, finishOf}
+use borrow.Author.Tests.{lt-ltb, le-ltb, ne-eqb}
+use Rattle.bundle.specs.Bundle.{finishOf}
 use Rattle.bundle.specs.declared.Held.{Held}
-use Rattle.nodes.specs.Nodes.{putNode, keyAt, nextAt, lockAt, removedAt, newestAt, unlocked, newNode}
+use Rattle.nodes.specs.Nodes.{putNode, keyAt, nextAt, lockAt, removedAt, unlocked}
 use Rattle.terms.specs.Terms.{tailKey, outOfBounds}
 use Rattle.terms.specs.declared.Size.{Size}
 use Rattle.terms.specs.declared.Counters.{Counters}
@@ -21,15 +21,15 @@ use Rattle.steps.specs.declared.Phase.{Phase}
 use Rattle.steps.specs.declared.Session.{Session}
 use Rattle.steps.specs.declared.Stepped.{Stepped}
 use Rattle.steps.specs.Steps.{done, tables, idle, busyOf, works, counted, raised, walkStep, free, lockStep}
-use Rattle.steps.specs.Steps.{insertMeets, insertCheck, checkStep, layIn, insertLaid, heldAt, insertRoom, prepareStep}
+use Rattle.steps.specs.Steps.{insertMeets, insertCheck, checkStep, insertLaid, heldAt, insertRoom, prepareStep}
 use Rattle.steps.specs.Steps.{numberStep, insertLink, linkStep, usable, finishStep, actStep, ends}
 use Rattle.register.specs.Register.{fits, badKey, began, startOf, stepOf}
 use Rattle.sixteen.specs.declared.Call.{Call}
 use Rattle.sixteen.specs.Sixteen.{Left, served}
-use Rattle.reached.specs.Reached.{State, called}
+use Rattle.reached.specs.Reached.{called}
 use Rattle.loaded.specs.Calls.{alone, Goes}
 use Rattle.loaded.proofs.Goes.{quiet-call, number-call}
-use Rattle.order.specs.Set.{Update, insert}
+use Rattle.order.specs.Set.{insert}
 
 -- session 0's record
 abbrev pub at : ℕ → ℕ → Phase → Session

@@ -8,7 +8,7 @@ use mathlib.Core.Logic.{_↔_}
 use native.Mathlib.Omega.{arith}
 use lib.ListN.{length}
 use lib.Dec.{eqb}
-use borrow.Author.Tests.{eq-eqb, eqb-true, eqb-false}
+use borrow.Author.Tests.{eq-eqb, eqb-true}
 use Rattle.text.proofs.Basics.{impossible}
 use Rattle.terms.specs.declared.Size.{Size}
 use Rattle.steps.specs.Steps.{Tables, tables}

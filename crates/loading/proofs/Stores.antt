@@ -6,12 +6,12 @@ use mathlib.Core.Path.{_≡_, refl, _∙_}
 use mathlib.Core.Logic.{_≢_}
 use mathlib.Core.List.{List, [], _∷_}
 use native.Mathlib.Omega.{arith}
-use lib.ListN.{length, getD, replicate, length-replicate, getD-replicate}
+use lib.ListN.{length, length-replicate, getD-replicate}
 use lib.Seq.{getD-set-other}
 use borrow.Author.Tests.{ne-eqb}
 use Rattle.table.specs.Table.{wordOf, storeOf, clearOf}
 use Rattle.table.proofs.Laws.{word-stored, store-length}
-use Rattle.bundle.specs.Bundle.{wordAt, layOf, finishOf}
+use Rattle.bundle.specs.Bundle.{wordAt}
 use Rattle.bundle.proofs.Promise.{lay-length, lay-else, lay-target}
 use Rattle.bundle.proofs.Promise.{finish-length, finish-else, finish-target, finish-final}
 use Rattle.nodes.specs.Nodes.{nodeAt, putNode, keyAt, valueAt, nextAt, lockAt, removedAt, newestAt, newNode}
@@ -20,7 +20,8 @@ use Rattle.terms.specs.Terms.{tailKey}
 use Rattle.terms.specs.declared.Counters.{Counters}
 use Rattle.steps.specs.Steps.{Tables, tables}
 use Rattle.register.specs.Register.{freshNodes, freshEntries}
-use Rattle.loading.specs.Filing.{used, predOf, preparedNodes, filedNodes, filedEntries, filed, filedAll}
+use Rattle.loading.specs.Filing.{used, predOf, preparedNodes, filedNodes, preparedEntries}
+use Rattle.loading.specs.Filing.{filedEntries, filedAll}
 use Rattle.loading.proofs.Words.{pred-below}
 
 abbrev pub nodesIn : Tables → List ℕ
@@ -144,11 +145,11 @@ module _ (c : Counters) (p k v : ℕ) (ns : List ℕ) where
 -- ---- and in the entries
 module _ (c : Counters) (older : ℕ) (es : List ℕ) where
   pub entries-length : length (filedEntries c older es) ≡ length es
-  unfolding filedEntries
+  unfolding filedEntries preparedEntries
   entries-length = simp (finish-length, lay-length)
 
   pub entries-below : (d l : ℕ) → d < c .entries → l < 4 → wordAt (filedEntries c older es) d l ≡ wordAt es d l
-  unfolding filedEntries
+  unfolding filedEntries preparedEntries
   entries-below d l below l<4 =
       finish-else _ (c .entries + 1) (c .stamp + 1) d l l<4 (omega arith) ∙
       finish-else _ (c .entries) (c .stamp + 1) d l l<4 (omega arith) ∙
@@ -158,7 +159,7 @@ module _ (c : Counters) (older : ℕ) (es : List ℕ) where
   module _ (room : (c .entries + 1) * 4 + 3 < length es) where
     -- pred's new entry leads to the new node
     pub entry-before : wordAt (filedEntries c older es) (c .entries) 0 ≡ c .nodes
-    unfolding filedEntries
+    unfolding filedEntries preparedEntries
     entry-before =
         finish-else _ (c .entries + 1) (c .stamp + 1) (c .entries) 0 (omega arith) (omega arith) ∙
         finish-target _ (c .entries) (simp lay-length (omega arith)) (c .stamp + 1) ∙
@@ -167,14 +168,14 @@ module _ (c : Counters) (older : ℕ) (es : List ℕ) where
 
     -- and the new node's own to the tail; it is final
     pub entry-own : wordAt (filedEntries c older es) (c .entries + 1) 0 ≡ 1
-    unfolding filedEntries
+    unfolding filedEntries preparedEntries
     entry-own =
         finish-target _ (c .entries + 1) (simp (finish-length, lay-length) (omega arith)) (c .stamp + 1) ∙
         finish-else _ (c .entries) (c .stamp + 1) (c .entries + 1) 0 (omega arith) (omega arith) ∙
         lay-target _ (c .entries + 1) (simp lay-length (omega arith)) 1 (c .stamp) 0
 
     pub entry-own-final : wordAt (filedEntries c older es) (c .entries + 1) 2 ≡ 0
-    unfolding filedEntries
+    unfolding filedEntries preparedEntries
     entry-own-final =
         finish-final _ (c .entries + 1) (simp (finish-length, lay-length) (omega arith)) (c .stamp + 1)
 

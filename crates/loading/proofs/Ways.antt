@@ -1,7 +1,7 @@
 -- Each way out of `load`, over plain values; and what reading hands to it.
 -- In order: the keys and values that reading gave; a register, or a refusal of the listing; the lengths first.
 -- Not here: the tables' words (Words). Assumes nothing.
-use Prim.Native.Nat.{ℕ, _+_, _*_, _≤_, _<_}
+use Prim.Native.Nat.{ℕ, _+_, _≤_, _<_}
 use mathlib.Core.Path.{_≡_, sym, _∙_}
 use mathlib.Core.List.{List}
 use native.Mathlib.Omega.{arith}

@@ -1,7 +1,7 @@
 -- Words into tables: each way through the writers of words, over plain values.
 -- In order: one key more; all keys; the tables' lengths; fresh tables, then all keys. Assumes nothing.
 use Prim.Native.Nat.{ℕ, _+_, _*_, _≤_, _<_}
-use mathlib.Core.Path.{_≡_, refl, sym, _∙_}
+use mathlib.Core.Path.{_≡_, refl, _∙_}
 use mathlib.Core.List.{List, _∷_}
 use mathlib.Core.Bool.{Bool, true, false, cond}
 use native.Mathlib.Omega.{arith}
@@ -18,7 +18,7 @@ use Rattle.steps.specs.Steps.{Tables, tables}
 use Rattle.register.specs.declared.Opened.{Opened}
 use Rattle.register.specs.Register.{fits, freshNodes, freshEntries, freshCounters, freshOf, opened}
 use Rattle.loading.specs.Filing.{used, predOf, preparedNodes, filedNodes}
-use Rattle.loading.specs.Filing.{filedEntries, filed, filedAll, freshTables}
+use Rattle.loading.specs.Filing.{preparedEntries, filedEntries, filed, filedAll, freshTables}
 
 -- ---- one key more
 
@@ -52,11 +52,16 @@ module _ (c : Counters) where
   unfolding filedNodes
   files-node pred k v l m₁ m₂ m₃ h₁ h₂ h₃ = rw (h₃, h₂, h₁)
 
-  pub files-entries : (older : ℕ) (l m₁ m₂ m₃ m₄ : List ℕ) → m₁ ≡ layOf l (c .entries) (c .nodes) (c .stamp) older →
-      m₂ ≡ layOf m₁ (c .entries + 1) 1 (c .stamp) 0 → m₃ ≡ finishOf m₂ (c .entries) (c .stamp + 1) →
-      m₄ ≡ finishOf m₃ (c .entries + 1) (c .stamp + 1) → m₄ ≡ filedEntries c older l
+  pub prepares-entries : (older : ℕ) (l m₁ m₂ : List ℕ) → m₁ ≡ layOf l (c .entries) (c .nodes) (c .stamp) older →
+      m₂ ≡ layOf m₁ (c .entries + 1) 1 (c .stamp) 0 → m₂ ≡ preparedEntries c older l
+  unfolding preparedEntries
+  prepares-entries older l m₁ m₂ h₁ h₂ = rw (h₂, h₁)
+
+  pub files-entries : (older : ℕ) (l m₁ m₂ m₃ : List ℕ) → m₁ ≡ preparedEntries c older l →
+      m₂ ≡ finishOf m₁ (c .entries) (c .stamp + 1) → m₃ ≡ finishOf m₂ (c .entries + 1) (c .stamp + 1) →
+      m₃ ≡ filedEntries c older l
   unfolding filedEntries
-  files-entries older l m₁ m₂ m₃ m₄ h₁ h₂ h₃ h₄ = rw (h₄, h₃, h₂, h₁)
+  files-entries older l m₁ m₂ m₃ h₁ h₂ h₃ = rw (h₃, h₂, h₁)
 
   pub files-one : (i p o k v : ℕ) (ns es m n : List ℕ) → c ≡ used i → p ≡ predOf i → o ≡ newestAt ns p →
       m ≡ filedNodes c p k v ns → n ≡ filedEntries c o es → tables m n ≡ filed i k v (tables ns es)
@@ -70,7 +75,7 @@ module _ (c : Counters) where
     pub stamp-room : c .stamp + 1 ≤ 4294967295
     stamp-room = rw e (omega arith)
 
-pub ruleset files = (prepares-node, files-node, files-entries, files-one, entries-room, stamp-room)
+pub ruleset files = (prepares-node, files-node, prepares-entries, files-entries, files-one, entries-room, stamp-room)
 
 -- ---- all keys: what is left to file makes the whole
 

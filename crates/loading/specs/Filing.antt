@@ -32,13 +32,18 @@ unfoldable pub filedNodes : Counters → ℕ → ℕ → ℕ → List ℕ → Li
 filedNodes c pred key value ns = unlocked (putNode (preparedNodes c pred key value ns) pred 2 (c .nodes)) pred
 
 -- ---- and in the entries. Prepare: pred's entry to the new node, in front of the ones it had, and the new node's to
--- the tail; Finish: both get the number
+-- the tail
+unfoldable pub preparedEntries : Counters → ℕ → List ℕ → List ℕ
+preparedEntries c older es =
+    layOf (layOf es (c .entries) (c .nodes) (c .stamp) older) (c .entries + 1) 1 (c .stamp) 0
+
+-- Finish: both get the number
 unfoldable pub filedEntries : Counters → ℕ → List ℕ → List ℕ
 filedEntries c older es =
     finishOf
-    (finishOf (layOf (layOf es (c .entries) (c .nodes) (c .stamp) older) (c .entries + 1) 1 (c .stamp) 0)
-    (c .entries) (c .stamp + 1))
-    (c .entries + 1) (c .stamp + 1)
+    (finishOf (preparedEntries c older es) (c .entries) (c .stamp + 1))
+    (c .entries + 1)
+    (c .stamp + 1)
 
 -- ---- one key more, above the i that the tables have
 abbrev pub filed : ℕ → ℕ → ℕ → Tables → Tables

@@ -6,7 +6,6 @@ use mathlib.Core.List.{List, [], _∷_}
 use mathlib.Core.Bool.{cond}
 use Rattle.terms.specs.Terms.{refusalNumber}
 use Rattle.terms.specs.declared.Size.{Size}
-use Rattle.terms.specs.declared.Counters.{Counters}
 use Rattle.terms.specs.declared.Refusal.{Refusal}
 use Rattle.steps.specs.Steps.{Tables, tables}
 use Rattle.register.specs.Register.{fits}

@@ -10,7 +10,7 @@ ghost use Rattle.terms.specs.Terms.{small};
 ghost use Rattle.steps.specs.Steps.{tables};
 ghost use Rattle.register.specs.Register.{fits};
 ghost use Rattle.loading.specs.Filing.{used, predOf, preparedNodes, filedNodes};
-ghost use Rattle.loading.specs.Filing.{filedEntries, filed, filedAll, freshTables};
+ghost use Rattle.loading.specs.Filing.{preparedEntries, filedEntries, filed, filedAll, freshTables};
 ghost use Rattle.loading.specs.Loading.{done, loadOf};
 use nodes::NEWEST;
 use nodes::NEXT;
@@ -72,16 +72,26 @@ fn file_node(nodes: &mut [u32], c: Counters, pred: u32, key: u32, value: u32)
     nodes::unlock(nodes, pred);
 }
 
-// The two entries that its Prepare lays and its Finish numbers.
-fn file_entries(entries: &mut [u32], c: Counters, older: u32)
-    requires { ⌜ (c .entries + 2 ≤ 4294967295) × (c .stamp + 1 ≤ 4294967295) ⌝ }
-    ensures { λ _. ⌜ now (entries .exit) ≡ filedEntries c older (now (entries .entry)) ⌝ }
+// The two entries that its Prepare lays.
+fn prepare_entries(entries: &mut [u32], c: Counters, older: u32)
+    requires { ⌜ c .entries + 2 ≤ 4294967295 ⌝ }
+    ensures { λ _. ⌜ now (entries .exit) ≡ preparedEntries c older (now (entries .entry)) ⌝ }
 {
     let n = c.nodes;
     let e = c.entries;
     let stamp = c.stamp;
     bundle::lay(entries, e, n, stamp, older);
     bundle::lay(entries, e + 1, 1, stamp, 0);
+}
+
+// And its Finish numbers.
+fn file_entries(entries: &mut [u32], c: Counters, older: u32)
+    requires { ⌜ (c .entries + 2 ≤ 4294967295) × (c .stamp + 1 ≤ 4294967295) ⌝ }
+    ensures { λ _. ⌜ now (entries .exit) ≡ filedEntries c older (now (entries .entry)) ⌝ }
+{
+    let e = c.entries;
+    let stamp = c.stamp;
+    prepare_entries(entries, c, older);
     bundle::finish(entries, e, stamp + 1);
     bundle::finish(entries, e + 1, stamp + 1);
 }
