@@ -1,0 +1,148 @@
+//! Measuring one contender. In order: what a contender does; the two timed functions; one pass; the program.
+//! A clock is read around whole parts only (a quarter of a range, 32 updates); its own cost is taken off.
+//! Every range is compared with the model, outside the time.
+use crate::workload::{life, Life, Update, FIRST_KEYS, PARTS};
+use std::hint::black_box;
+use std::time::Instant;
+
+pub trait Register {
+    /// Empty, and ready for a life.
+    fn fresh(&mut self);
+    /// One whole insert of a new key: true where it was made.
+    fn insert(&mut self, key: u32, value: u32) -> bool;
+    /// One whole remove: true where it was made.
+    fn remove(&mut self, key: u32) -> bool;
+    /// Begins the whole range, at the snapshot of this moment.
+    fn open(&mut self);
+    /// Hands out that many keys.
+    fn hand(&mut self, keys: usize, out: &mut Vec<(u32, u32)>);
+    /// Ends the range, which has no more keys: true where it had none.
+    fn close(&mut self) -> bool;
+    /// Steps made so far; 0 where there are none.
+    fn steps(&self) -> u64 {
+        0
+    }
+}
+
+pub enum Part {
+    Open,
+    Hand(usize),
+    Close,
+}
+
+/// A part of a range.
+#[inline(never)]
+pub fn range_part<R: Register>(r: &mut R, part: Part, out: &mut Vec<(u32, u32)>) -> bool {
+    match part {
+        Part::Open => r.open(),
+        Part::Hand(keys) => r.hand(keys, out),
+        Part::Close => return r.close(),
+    }
+    true
+}
+
+/// Updates, each whole. Answers how many were made.
+#[inline(never)]
+pub fn update_part<R: Register>(r: &mut R, updates: &[Update]) -> usize {
+    let mut made = 0;
+    for u in updates {
+        made += match *u {
+            Update::Insert(key, value) => r.insert(key, value),
+            Update::Remove(key) => r.remove(key),
+        } as usize;
+    }
+    made
+}
+
+/// The nanoseconds of each part in their order, and steps and keys handed out or updates made in all.
+#[derive(Default)]
+struct Sum {
+    nanos: Vec<f64>,
+    steps: u64,
+    count: u64,
+}
+
+impl Sum {
+    fn add<R: Register, A>(&mut self, r: &mut R, clock: f64, count: usize, f: impl FnOnce(&mut R) -> A) -> A {
+        let before = r.steps();
+        let t = Instant::now();
+        let a = black_box(f(r));
+        self.nanos.push(t.elapsed().as_nanos() as f64 - clock);
+        self.steps += r.steps() - before;
+        self.count += count as u64;
+        a
+    }
+}
+
+fn median(mut all: Vec<f64>) -> f64 {
+    all.sort_unstable_by(f64::total_cmp);
+    all[all.len() / 2]
+}
+
+/// Each part's median over the passes, summed: every pass has the same parts, so a pass that was held up does no harm.
+fn told(passes: &[Sum]) -> String {
+    let parts = passes[0].nanos.len();
+    let nanos: f64 = (0..parts).map(|i| median(passes.iter().map(|p| p.nanos[i]).collect())).sum();
+    format!("{nanos:.0} {} {}", passes[0].steps, passes[0].count)
+}
+
+/// What reading the clock twice costs.
+fn clock_cost() -> f64 {
+    let pair = |_| {
+        let t = Instant::now();
+        t.elapsed().as_nanos() as f64
+    };
+    median((0..10001).map(pair).collect())
+}
+
+fn live<R: Register>(r: &mut R, life: &Life, clock: f64, range: &mut Sum, update: &mut Sum) {
+    r.fresh();
+    for &(key, value) in &life.fill {
+        assert!(r.insert(key, value), "filling");
+    }
+    let mut out = Vec::with_capacity(2 * FIRST_KEYS);
+    for round in &life.rounds {
+        out.clear();
+        let all = round.content.len();
+        range.add(r, clock, 0, |r| range_part(r, Part::Open, &mut out));
+        for (i, updates) in round.updates.iter().enumerate() {
+            let keys = all * (i + 1) / PARTS - all * i / PARTS;
+            range.add(r, clock, keys, |r| range_part(r, Part::Hand(keys), &mut out));
+            let made = update.add(r, clock, updates.len(), |r| update_part(r, updates));
+            assert_eq!(made, updates.len(), "every update is made");
+        }
+        let ended = range.add(r, clock, 0, |r| range_part(r, Part::Close, &mut out));
+        assert!(ended, "no key is left after the last");
+        assert!(out == round.content, "a range is the model at its snapshot");
+    }
+    out.clear();
+    r.open();
+    r.hand(life.left.len(), &mut out);
+    assert!(r.close() && out == life.left, "what is left is the model");
+}
+
+/// Prints the name, then nanoseconds, steps and count of the ranges and of the updates. With one pass there is none to
+/// warm up, so that what is counted from outside is what is printed.
+pub fn run<R: Register>(name: &str, r: &mut R, passes: usize, lives: u64) {
+    let inputs: Vec<Life> = (0..lives).map(life).collect();
+    let clock = clock_cost();
+    if passes > 1 {
+        live(r, &life(lives), clock, &mut Sum::default(), &mut Sum::default());
+    }
+    let (mut ranges, mut updates) = (Vec::new(), Vec::new());
+    for _ in 0..passes.max(1) {
+        let (mut range, mut update) = (Sum::default(), Sum::default());
+        for l in &inputs {
+            live(r, l, clock, &mut range, &mut update);
+        }
+        ranges.push(range);
+        updates.push(update);
+    }
+    println!("{name} {} {}", told(&ranges), told(&updates));
+}
+
+/// The numbers after the contender's name on the command line: passes, and lives a pass.
+pub fn sizes(mut rest: impl Iterator<Item = String>) -> (usize, u64) {
+    let mut number = |otherwise: u64| rest.next().and_then(|a| a.parse().ok()).unwrap_or(otherwise);
+    (number(9) as usize, number(20))
+}
