@@ -42,7 +42,7 @@ use Rattle.words.proofs.Show.{Shown}
 use Rattle.words.proofs.Use.{inUse, in-use-covers, in-use-length}
 use Rattle.words.proofs.Demand2.{demand-2, seen}
 use Rattle.mission.specs.Mission.{whole}
-use Rattle.mission.specs.Listed.{keysOf, valuesOf, ReadAs, Listed, ListedMoment}
+use Rattle.mission.specs.Listed.{keysOf, valuesOf, ReadAs, Listed, mostRoom, ListedMoment}
 use Rattle.mission.proofs.Mission.{set-log, bounded, one-moment, handed}
 
 -- ---- keys within bounds
@@ -153,7 +153,7 @@ pairs-again [] = refl
 pairs-again (x ∷ l) = ap (λ r. x ∷ r) (pairs-again l)
 
 module _ (t : ℕ) (list : List Pair) (F : Fine t list) (fit : Fit (valuesOf list)) (out : List ℕ)
-    (room : 16357 ≤ length out) where
+    (room : mostRoom ≤ length out) where
   abbrev ks : List ℕ
   ks = keysOf list
 
@@ -226,7 +226,7 @@ module _ (t : ℕ) (list : List Pair) (F : Fine t list) (fit : Fit (valuesOf lis
 -- ---- THE RECORD
 ranged : (σ : State) (h : Past) → Reached small σ h → (c : Call) (t n : ℕ)
     → answer small σ c ≡ Answer.End t n → Fit (valuesOf (h .handed (whoOf c)))
-    → (out : List ℕ) → 16357 ≤ length out → Listed t (h .handed (whoOf c)) out (h .handed (whoOf c))
+    → (out : List ℕ) → mostRoom ≤ length out → Listed t (h .handed (whoOf c)) out (h .handed (whoOf c))
 ranged σ h R c t n e fit out room = listed t (h .handed (whoOf c)) (handed-fine σ h R c t n e) fit out room
 
 pub listed-moment : ListedMoment

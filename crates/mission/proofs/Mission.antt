@@ -43,6 +43,7 @@ use Rattle.words.proofs.Starts.{idle-refused}
 use Rattle.words.proofs.Whole.{step-advances, reached-shown}
 use Rattle.words.proofs.Demand2.{demand-2, seen}
 use Rattle.mission.specs.Mission.{whole, Moment, stampThen, setThen, begun, begunPast, Ends, list}
+use Rattle.mission.specs.Mission.{HadMoment, HandedAll, Quiet, Unmoved, Added}
 use Rattle.mission.specs.Mission.{OneMoment, OneKey, Handed}
 use Rattle.mission.specs.Runs.{run, pastOf}
 
@@ -107,8 +108,7 @@ same-range : (a b c d : ℕ) → Op.Op.Range a b ≡ Op.Op.Range c d → (a ≡ 
 same-range a b c d e = (cc, cc)
 
 whole-end : (σ : State) (h : Past) → Reached small σ h → (c : Call) (t n : ℕ) → opOf σ (whoOf c) ≡ whole
-    → answer small σ c ≡ Answer.End t n
-    → (h .handed (whoOf c) ≡ setAt h t) × (n ≡ length (setAt h t)) × (h .since (whoOf c) ≤ t) × (t ≤ stampOf σ)
+    → answer small σ c ≡ Answer.End t n → HandedAll σ h (whoOf c) t n
 whole-end σ h R c t n op e =
     let d = demand-2 .end σ h R c t n e in
     let r = same-range (d .0) (d .1) 1 4294967294 (sym (d .2) ∙ op) in
@@ -231,8 +231,7 @@ module _ (σ : State) (h : Past) (q low high : ℕ) (calls : List Call) (t n : �
   began-by = since-stays σ₁ h₁ start-reached calls (E .in-words .1) q (stampOf σ) (omega arith)
       (omega (arith, start-since σ h q (Op.Op.Range low high) _ (E .started)))
 
-  query-moment : (m : Moment σ₁ h₁ calls) × (stampThen σ₁ h₁ calls m ≡ t)
-      × (list σ h q low high calls ≡ within keyOf low high (setThen σ₁ h₁ calls m))
+  query-moment : HadMoment σ h q low high calls t
   query-moment =
       let d = demand-2 .end (run σ₁ calls) (pastOf σ₁ h₁ calls) end-reached (Call.Step q) t n (E .ended) in
       let r = same-range (d .0) (d .1) low high (sym (d .2) ∙ E .still) in
@@ -270,7 +269,7 @@ module _ (key val : ℕ → ℕ) (m : Drawing) (t : ℕ) where
   step-still (follow-end low high x s q given e a h k) other = refl
   step-still (hand-out low high x s given e) other = refl
 
-  advance-still : (m′ : Drawing) (a : Answer) → a ≢ Answer.Working → Advance key val t m m′ a
+  advance-still : (m′ : Drawing) (a : Answer) → Quiet a → Advance key val t m m′ a
       → now empty m′ ≡ now empty m
   advance-still m′ a other (waited w e _) = ap (now empty) e
   advance-still m′ a other (stepped o f φ step e b) =
@@ -278,13 +277,13 @@ module _ (key val : ℕ → ℕ) (m : Drawing) (t : ℕ) where
 
 module _ (key val : ℕ → ℕ) (σ : State) (h : Past) (m : Drawing) (S : Shown small key val σ h m) (t : ℕ)
     (agrees : Agrees key val (usedOf (go small σ (Call.Step t))) (go small σ (Call.Step t) .nodes))
-    (other : answer small σ (Call.Step t) ≢ Answer.Working) where
+    (other : Quiet (answer small σ (Call.Step t))) where
   shown-still : stampOf (go small σ (Call.Step t)) ≡ stampOf σ
   shown-still = ⊎-elim (λ quiet. ap (λ l. stampOf (stateIn l)) (idle-refused key val σ h m S t quiet .2))
       (λ a. a .1 .1 .stamp ∙ advance-still key val m t (a .1 .0) _ other (a .1 .2) ∙ sym (S .stamp))
       (step-advances key val σ h m S t agrees)
 
-stamp-still : (σ : State) (h : Past) → Reached small σ h → (c : Call) → answer small σ c ≢ Answer.Working
+stamp-still : (σ : State) (h : Past) → Reached small σ h → (c : Call) → Quiet (answer small σ c)
     → stampOf (go small σ c) ≡ stampOf σ
 stamp-still σ h R (Call.Start who op) other = refl
 stamp-still σ h R (Call.Step t) other =
@@ -294,8 +293,8 @@ stamp-still σ h R (Call.Step t) other =
     let d = reached-shown R (keyAt ns) (valueAt ns) (agree-back small _ _ σ (Call.Step t) own) in
     shown-still (keyAt ns) (valueAt ns) σ h (d .0) (d .1) t own other
 
-still : (σ : State) (h : Past) → Reached small σ h → (c : Call) → answer small σ c ≢ Answer.Working
-    → (note small σ c h .updates ≡ h .updates) × (stampOf (go small σ c) ≡ stampOf σ)
+still : (σ : State) (h : Past) → Reached small σ h → (c : Call) → Quiet (answer small σ c)
+    → Unmoved σ h c
 still σ h R c other =
     let same-stamp = stamp-still σ h R c other in
     (no-update (stampOf σ) (stampOf (go small σ c)) _ (h .updates) same-stamp, same-stamp)
@@ -303,21 +302,17 @@ still σ h R c other =
 -- ---- one key
 filed-present : (σ : State) (h : Past) → Reached small σ h → (c : Call) (k v : ℕ)
     → opOf σ (whoOf c) ≡ Op.Op.Insert k v → answer small σ c ≡ Answer.Present
-    → (member keyOf k (setNow h) ≡ true) × (note small σ c h .updates ≡ h .updates)
-    × (stampOf (go small σ c) ≡ stampOf σ)
-filed-present σ h R c k v op a =
-    let d = still σ h R c (λ e. let z : _≡_ {A = ℕ} 0 1 = cc in omega arith) in (
-      ap (λ o. member keyOf (soughtOf o) (setNow h)) (sym op) ∙ demand-2 .present σ h R c a,
-      d .0,
-      d .1,
-    )
+    → (member keyOf k (setNow h) ≡ true) × Unmoved σ h c
+filed-present σ h R c k v op a = (
+  ap (λ o. member keyOf (soughtOf o) (setNow h)) (sym op) ∙ demand-2 .present σ h R c a,
+  still σ h R c (λ e. let z : _≡_ {A = ℕ} 0 1 = cc in omega arith),
+)
 
 same-insert : (a b c d : ℕ) → Op.Op.Insert a b ≡ Op.Op.Insert c d → (a ≡ c) × (b ≡ d)
 same-insert a b c d e = (cc, cc)
 
 filed-inserted : (σ : State) (h : Past) → Reached small σ h → (c : Call) (k v n : ℕ)
-    → opOf σ (whoOf c) ≡ Op.Op.Insert k v → answer small σ c ≡ Answer.Inserted n
-    → (member keyOf k (setAt h (n - 1)) ≡ false) × (setAt h n ≡ put keyOf (k, v) (setAt h (n - 1)))
+    → opOf σ (whoOf c) ≡ Op.Op.Insert k v → answer small σ c ≡ Answer.Inserted n → Added h k v n
 unfolding setAfter
 filed-inserted σ h R c k v n op a =
     let d = demand-2 .inserted σ h R c n a in

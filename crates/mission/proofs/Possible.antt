@@ -33,14 +33,13 @@ use Rattle.demands.specs.Worked.{steps, does, whole, figureCalls}
 use Rattle.demands.proofs.Demand1.{demand-1-small}
 use Rattle.reached.specs.Reached.{State, recordOf, answerIn, answer, Past, noPast, InWords, Reached, fresh, on, at}
 use Rattle.listing.specs.Refusals.{Fit}
-use Rattle.reached.specs.Answers.{setNow}
 use Rattle.reached.specs.Fair.{AllInWords}
 use Rattle.words.proofs.Demand2.{seen}
 use Rattle.mission.specs.Runs
 use Rattle.mission.specs.Runs.{run, pastOf, Kind, kindOf}
-use Rattle.mission.specs.Mission.{Ends, begun, begunPast, list}
+use Rattle.mission.specs.Mission.{begun, begunPast}
 use Rattle.mission.specs.Listed.{valuesOf, Listed}
-use Rattle.mission.specs.Possible.{begin, Stands, Answers, Refused, meanwhile, Possible}
+use Rattle.mission.specs.Possible.{begin, Stands, Answers, Refused, meanwhile, Query, query, Possible}
 use Rattle.mission.proofs.Mission.{run-reached}
 use Rattle.mission.proofs.Listed.{listed-moment}
 
@@ -102,10 +101,6 @@ refused calls words c word number e =
 figure-updates : pastOf begin noPast figureCalls .updates ≡ remove 20 ∷ insert 10 9 ∷ insert 30 8 ∷ insert 20 7 ∷ []
 unfolding opened-up
 figure-updates = refl
-
-figure-set : setNow (pastOf begin noPast figureCalls) ≡ (10, 9) ∷ (30, 8) ∷ []
-unfolding setAfter put cut
-figure-set = ap (setAfter []) figure-updates
 
 -- ---- the phases
 abbrev filing : ℕ → List Call
@@ -170,9 +165,9 @@ no-bad-table σ h R (Call.Step who) r =
     (subst (Refuses 7) (left-answer (σ .register) who o) r))
 
 -- ---- a query amid intake
-query : Ends begin noPast 1 1 4294967294 meanwhile 1 1
+query-ends : Query
 unfolding opened-up
-query = record {
+query-ends = record {
   reached = begin-reached;
   in-words = (in-words (Call.Start 1 whole) refl, all-in-words meanwhile refl);
   started = refl;
@@ -181,7 +176,7 @@ query = record {
 }
 
 -- ---- its list, written and read back
-query-list : list begin noPast 1 1 4294967294 meanwhile ≡ (20, 7) ∷ []
+query-list : query ≡ (20, 7) ∷ []
 unfolding opened-up at
 query-list = refl
 
@@ -189,30 +184,30 @@ seven-fits : Fit (7 ∷ [])
 seven-fits zero = omega arith
 seven-fits (suc i) = omega arith
 
-loaded : Listed 1 (list begin noPast 1 1 4294967294 meanwhile) (replicate 16357 0) ((20, 7) ∷ [])
+loaded : Listed 1 query (replicate 16357 0) ((20, 7) ∷ [])
 loaded =
     let σ = begun begin noPast 1 1 4294967294 meanwhile in
     let h = begunPast begin noPast 1 1 4294967294 meanwhile in
-    let R = run-reached σ h (on begin-reached (Call.Start 1 whole) (query .in-words .0)) meanwhile
-    (query .in-words .1) in
-    let l = list begin noPast 1 1 4294967294 meanwhile in
-    subst (Listed 1 l (replicate 16357 0)) query-list
-    (listed-moment .any-range (run σ meanwhile) (pastOf σ h meanwhile) R (Call.Step 1) 1 1 (query .ended)
+    let R = run-reached σ h (on begin-reached (Call.Start 1 whole) (query-ends .in-words .0)) meanwhile
+    (query-ends .in-words .1) in
+    subst (Listed 1 query (replicate 16357 0)) query-list
+    (listed-moment .any-range (run σ meanwhile) (pastOf σ h meanwhile) R (Call.Step 1) 1 1 (query-ends .ended)
     (subst (λ r. Fit (valuesOf r)) (sym query-list) seven-fits) (replicate 16357 0)
     (omega (arith, length-replicate {A = ℕ} 16357 0)))
 
 -- ---- all of it
 pub possible : Possible
+unfolding setAfter put cut
 possible = record {
   fresh = begin-reached;
   figure = runs figureCalls refl;
   figure-updates = figure-updates;
-  figure-set = figure-set;
+  figure-set = ap (setAfter []) figure-updates;
   every-phase = phase;
   every-answer = named;
   refusals = numbers;
   no-bad-table = no-bad-table;
-  query = query;
+  query-ends = query-ends;
   query-list = query-list;
   loaded = loaded;
 }

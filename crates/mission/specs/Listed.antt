@@ -1,5 +1,5 @@
 -- A list written as a listing and read back is the same register: its keys and values, at the list's one moment.
--- In order: a list's keys and values; a list written and read back; the sentence.
+-- In order: a list's keys and values; a list written and read back; room for any listing; the sentence.
 -- The values are words of 32 bits, as every number of a program is: a reached register's calls say that of their keys
 -- alone. Not here: the proof (proofs/Listed.antt). Assumes nothing.
 use Prim.Native.Nat.{ℕ, _≤_}
@@ -50,13 +50,17 @@ pub record Listed (t : ℕ) (list : List Pair) (out : List ℕ) (set : List Pair
   pub writes : writeOf keyRoom t (keysOf list) (valuesOf list) out ≡ written output (Written.Length count)
   pub reads : (ns es : List ℕ) → length ns ≡ 3072 → length es ≡ 8192 → ReadAs (take count output) ns es set
 
--- ---- A LIST, WRITTEN AND READ BACK, GIVES THE SAME KEYS AND VALUES, in an output of 16,357 bytes
+-- ---- the longest listing's bytes
+abbrev pub mostRoom : ℕ
+mostRoom = 16357
+
+-- ---- A LIST, WRITTEN AND READ BACK, GIVES THE SAME KEYS AND VALUES, in an output with room for any listing
 pub record ListedMoment : Type 0 where
   -- a range's: what it handed out
   pub any-range : (σ : State) (h : Past) → Reached small σ h → (c : Call) (t n : ℕ)
       → answer small σ c ≡ Answer.End t n → Fit (valuesOf (h .handed (whoOf c)))
-      → (out : List ℕ) → 16357 ≤ length out → Listed t (h .handed (whoOf c)) out (h .handed (whoOf c))
+      → (out : List ℕ) → mostRoom ≤ length out → Listed t (h .handed (whoOf c)) out (h .handed (whoOf c))
   -- the whole range's: the set after T updates, which is the register at one moment
   pub whole-range : (σ : State) (h : Past) → Reached small σ h → (c : Call) (t n : ℕ) → opOf σ (whoOf c) ≡ whole
       → answer small σ c ≡ Answer.End t n → Fit (valuesOf (h .handed (whoOf c)))
-      → (out : List ℕ) → 16357 ≤ length out → Listed t (h .handed (whoOf c)) out (setAt h t)
+      → (out : List ℕ) → mostRoom ≤ length out → Listed t (h .handed (whoOf c)) out (setAt h t)

@@ -1,5 +1,6 @@
 -- Demand 2 in the mission's own words: a list is the register at one moment, and a copy under another name is one key.
--- In order: the whole range; a moment of a run; a query from start to end; OneMoment; OneKey; Handed.
+-- In order: the whole range; a moment of a run; a query from start to end; OneMoment; what a call adds; OneKey;
+-- Handed.
 -- Each is a consequence of demand 2 (crate reached), and of the drawing that the words show.
 -- Not here: the proofs (proofs/Mission.antt). Assumes nothing.
 use Prim.Native.Nat.{ℕ, _-_, _≤_}
@@ -54,36 +55,51 @@ module _ (σ : State) (h : Past) (q low high : ℕ) (calls : List Call) where
   abbrev pub list : List Pair
   list = pastOf begun begunPast calls .handed q
 
+  -- there was a moment since its start at which the stamp was t and the set, within its bounds, was the list
+  abbrev pub HadMoment : ℕ → Type 0
+  HadMoment t = (m : Moment begun begunPast calls) × (stampThen begun begunPast calls m ≡ t)
+      × (list ≡ within keyOf low high (setThen begun begunPast calls m))
+
+-- what a session was handed is exactly the set after t updates, n of them; t lies between the stamps at its start and
+-- now
+abbrev pub HandedAll : State → Past → (who t n : ℕ) → Type 0
+HandedAll σ h who t n =
+    (h .handed who ≡ setAt h t) × (n ≡ length (setAt h t)) × (h .since who ≤ t) × (t ≤ stampOf σ)
+
 -- ---- A LIST IS THE REGISTER AT ONE MOMENT, while intake goes on
 pub record OneMoment : Type 0 where
-  -- a range over all keys ends with T and C: what it handed out is exactly the set after T updates, C of them; T lies
-  -- between the stamps at its start and now
+  -- a range over all keys ends with T and C: it was handed the set after T updates
   pub whole-set : (σ : State) (h : Past) → Reached small σ h → (c : Call) (t n : ℕ) → opOf σ (whoOf c) ≡ whole
-      → answer small σ c ≡ Answer.End t n
-      → (h .handed (whoOf c) ≡ setAt h t) × (n ≡ length (setAt h t)) × (h .since (whoOf c) ≤ t) × (t ≤ stampOf σ)
-  -- from its start till its end there was a moment at which the stamp was T and the set, within its bounds, was the
-  -- list, whatever the other sessions did meanwhile
+      → answer small σ c ≡ Answer.End t n → HandedAll σ h (whoOf c) t n
+  -- any range's list was the set, within its bounds, at a moment of the query, whatever other sessions did meanwhile
   pub moment : (σ : State) (h : Past) (q low high : ℕ) (calls : List Call) (t n : ℕ)
-      → Ends σ h q low high calls t n
-      → (m : Moment (begun σ h q low high calls) (begunPast σ h q low high calls) calls)
-      × (stampThen _ _ _ m ≡ t) × (list σ h q low high calls ≡ within keyOf low high (setThen _ _ _ m))
+      → Ends σ h q low high calls t n → HadMoment σ h q low high calls t
+
+-- ---- any answer but working
+abbrev pub Quiet : Answer → Type 0
+Quiet a = a ≢ Answer.Working
+
+-- a call leaves the updates and the stamp as they were
+abbrev pub Unmoved : State → Past → Call → Type 0
+Unmoved σ h c = (note small σ c h .updates ≡ h .updates) × (stampOf (go small σ c) ≡ stampOf σ)
+
+-- the set had not the key after n - 1 updates, and after n it has it, with its value, besides
+abbrev pub Added : Past → (k v n : ℕ) → Type 0
+Added h k v n = (member keyOf k (setAt h (n - 1)) ≡ false) × (setAt h n ≡ put keyOf (k, v) (setAt h (n - 1)))
 
 -- ---- A COPY UNDER ANOTHER NAME IS ONE KEY
 pub record OneKey : Type 0 where
-  -- filing a key answers present only when the set has it, and then the updates, the stamp and the set are as before
+  -- filing a key answers present only when the set has it, and then the updates and the stamp are as before
   pub present : (σ : State) (h : Past) → Reached small σ h → (c : Call) (k v : ℕ)
       → opOf σ (whoOf c) ≡ Op.Insert k v → answer small σ c ≡ Answer.Present
-      → (member keyOf k (setNow h) ≡ true) × (note small σ c h .updates ≡ h .updates)
-      × (stampOf (go small σ c) ≡ stampOf σ)
-  -- it answers inserted N only when the set had it not after N - 1 updates, and after N it has it besides
+      → (member keyOf k (setNow h) ≡ true) × Unmoved σ h c
+  -- it answers inserted N only when the set had it not
   pub inserted : (σ : State) (h : Past) → Reached small σ h → (c : Call) (k v n : ℕ)
-      → opOf σ (whoOf c) ≡ Op.Insert k v → answer small σ c ≡ Answer.Inserted n
-      → (member keyOf k (setAt h (n - 1)) ≡ false) × (setAt h n ≡ put keyOf (k, v) (setAt h (n - 1)))
+      → opOf σ (whoOf c) ≡ Op.Insert k v → answer small σ c ≡ Answer.Inserted n → Added h k v n
   -- no set ever has a key twice: keys strictly rise in it
   pub once : (σ : State) (h : Past) → Reached small σ h → (n : ℕ) → Rises keyOf (setAt h n)
   -- only a call that answers working makes an update count
-  pub quiet : (σ : State) (h : Past) → Reached small σ h → (c : Call) → answer small σ c ≢ Answer.Working
-      → (note small σ c h .updates ≡ h .updates) × (stampOf (go small σ c) ≡ stampOf σ)
+  pub quiet : (σ : State) (h : Past) → Reached small σ h → (c : Call) → Quiet (answer small σ c) → Unmoved σ h c
 
 -- ---- KEYS ARE HANDED OUT RISING, strictly, to every session and at every moment
 pub record Handed : Type 0 where

@@ -1,15 +1,15 @@
--- Demand 2 is not vacuous: fresh, loaded and other registers are reached, each phase and each answer comes, and a query
--- ends amid intake.
--- In order: a fresh register; what it is that a phase or an answer comes; all of it.
--- Full (6) does not come by computing: it takes 510 inserts before it, and P11 (crate demands) shows it from the
--- counters. BadTable (7) never comes in a reached register, by `no-bad-table` below; Damaged (8) never does, by
+-- Demand 2 is not vacuous: fresh, loaded and other registers are reached, each phase and each answer comes, and a
+-- query ends amid intake.
+-- In order: a fresh register; what it is that a phase or an answer comes; a query amid intake; all of it.
+-- Full (6) does not come by computing, since 510 inserts come before it: P11 (crate demands) shows it from the
+-- counters, and no run that ends in it is given here. BadTable (7) never comes in a reached register, by `no-bad-table` below; Damaged (8) never does, by
 -- demand 2's `undamaged`.
 -- Not here: the proof (proofs/Possible.antt). Assumes nothing.
 use Prim.Native.Nat.{ℕ}
 use mathlib.Core.Path.{_≡_}
 use mathlib.Core.List.{List, [], _∷_, _++_}
 use lib.ListN.{replicate}
-use Rattle.order.specs.Set.{Update, insert, remove}
+use Rattle.order.specs.Set.{Pair, insert, remove}
 use Rattle.terms.specs.Terms.{small, Name, nameOf, Refuses}
 use Rattle.terms.specs.declared.Op.{Op}
 use Rattle.register.specs.Register.{freshNodes, freshEntries, freshCounters}
@@ -47,6 +47,13 @@ Refused number = (σ : State) × (h : Past) × (c : Call) × Reached small σ h 
 abbrev pub meanwhile : List Call
 meanwhile = does 0 (Op.Insert 20 7) 7 ++ (steps 1 3 ++ (does 0 (Op.Remove 20) 8 ++ steps 1 1))
 
+-- the list is the register at a moment that has passed: 20 is on it, and removed by now
+abbrev pub Query : Type 0
+Query = Ends begin noPast 1 1 4294967294 meanwhile 1 1
+
+abbrev pub query : List Pair
+query = list begin noPast 1 1 4294967294 meanwhile
+
 -- ---- all of it
 pub record Possible : Type 0 where
   pub fresh : Reached small begin noPast
@@ -59,8 +66,8 @@ pub record Possible : Type 0 where
   pub every-answer : (name : Name) → Answers name
   pub refusals : Refused 1 × Refused 2 × Refused 3 × Refused 4 × Refused 5
   pub no-bad-table : (σ : State) (h : Past) → Reached small σ h → (c : Call) → ¬ Refuses 7 (answer small σ c)
-  -- the list is the register at a moment that has passed: 20 is on it, and removed by now
-  pub query : Ends begin noPast 1 1 4294967294 meanwhile 1 1
-  pub query-list : list begin noPast 1 1 4294967294 meanwhile ≡ (20, 7) ∷ []
+  -- a query amid intake, and its list
+  pub query-ends : Query
+  pub query-list : query ≡ (20, 7) ∷ []
   -- and a loaded register: that list, written and read back
-  pub loaded : Listed 1 (list begin noPast 1 1 4294967294 meanwhile) (replicate 16357 0) ((20, 7) ∷ [])
+  pub loaded : Listed 1 query (replicate 16357 0) ((20, 7) ∷ [])
