@@ -1,0 +1,3 @@
+-- Each way through the encoding's functions; the round trip.
+pub mod Ways
+pub mod Trip

@@ -1,0 +1,2 @@
+-- A session's record as nine words, and back.
+pub mod Encoding

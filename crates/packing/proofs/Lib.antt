@@ -1,0 +1,2 @@
+-- Each way through the packing's functions.
+pub mod Ways

@@ -1,0 +1,2 @@
+-- The counters, the records and an answer in lent slices of words.
+pub mod Packing
