@@ -1,0 +1,2 @@
+-- Each way through the calls.
+pub mod Ways

@@ -1,0 +1,164 @@
+-- Each way out of the calls for other programs, over plain values.
+-- In order: lengths; a refusal; fresh; start; step. Assumes nothing.
+use Prim.Native.Nat.{ℕ, _≤_, _<_}
+use mathlib.Core.Path.{_≡_, ap, _∙_}
+use mathlib.Core.List.{List}
+use mathlib.Core.Bool.{Bool, true, false}
+use lib.ListN.{length}
+use lib.Dec.{eqb}
+use borrow.Author.Tests.{lt-ltb, le-ltb, eq-eqb, ne-eqb}
+use Rattle.terms.specs.Terms.{small, refusalNumber}
+use Rattle.terms.specs.declared.Size.{Size}
+use Rattle.terms.specs.declared.Counters.{Counters}
+use Rattle.terms.specs.declared.Op.{Op}
+use Rattle.terms.specs.declared.Answer.{Answer}
+use Rattle.terms.specs.declared.Refusal.{Refusal}
+use Rattle.steps.specs.declared.Session.{Session}
+use Rattle.steps.specs.declared.Stepped.{Stepped}
+use Rattle.steps.specs.Steps.{Done, done}
+use Rattle.register.specs.declared.Started.{Started}
+use Rattle.register.specs.declared.Opened.{Opened}
+use Rattle.register.specs.Register.{fits, opened, freshOf, startOf, stepOf}
+use Rattle.encoding.specs.declared.Words.{Words}
+use Rattle.encoding.specs.declared.Decoded.{Decoded}
+use Rattle.encoding.specs.Encoding.{encode, opFrom, decode}
+use Rattle.packing.specs.declared.Reply.{Reply}
+use Rattle.packing.specs.Packing.{countersAt, putCounters, recordAt, putRecord, freshWords, refusedBy, replyOf}
+use Rattle.packing.specs.Packing.{numberOf, putReply}
+use Rattle.ffi.specs.Ffi.{lengthsFit, told, refusal, answered, kept, cleared, freshCall, Heard, heard}
+use Rattle.ffi.specs.Ffi.{startRecord, startSession, startCall, Left, left, stepRecord, stepSession, stepCall}
+
+-- ---- lengths
+module _ (ns es ws : List ℕ) where
+  pub fit-words : length ns ≡ 3072 → length es ≡ 8192 → eqb (length ws) 147 ≡ lengthsFit small ns es ws
+  unfolding lengthsFit fits
+  fit-words h i = rw (eq-eqb _ _ h, eq-eqb _ _ i)
+
+  pub fit-entries-not : length ns ≡ 3072 → (length es ≡ 8192 → ⊥) → false ≡ lengthsFit small ns es ws
+  unfolding lengthsFit fits
+  fit-entries-not h i = rw (eq-eqb _ _ h, ne-eqb _ _ i)
+
+  pub fit-nodes-not : (length ns ≡ 3072 → ⊥) → false ≡ lengthsFit small ns es ws
+  unfolding lengthsFit fits
+  fit-nodes-not h = rw (ne-eqb _ _ h)
+
+pub ruleset lengths = (fit-words, fit-entries-not, fit-nodes-not)
+
+-- ---- a refusal
+pub refuses : (out out′ : List ℕ) (n : ℕ) (r : Reply) → r ≡ refusedBy n → out′ ≡ putReply out r
+    → told out′ n ≡ refusal out n
+refuses out out′ n r e h = rw (h, e)
+
+pub tells : (out out′ : List ℕ) (a : Answer) (n : ℕ) (y : Reply) → y ≡ replyOf a → out′ ≡ putReply out y → n ≡ numberOf y
+    → told out′ n ≡ answered out a
+tells out out′ a n y e h i = rw (i, h, e)
+
+pub keeps : (ws a b : List ℕ) (who : ℕ) (c : Counters) (s : Session) (w : Words) → w ≡ encode s → a ≡ putCounters ws c
+    → b ≡ putRecord a who w → b ≡ kept ws who c s
+keeps ws a b who c s w e h i = rw (i, h, e)
+
+-- ---- fresh
+module _ (z : Size) (ns es ws : List ℕ) where
+  pub fresh-short : (length ws ≡ 147 → ⊥) → cleared ns es ws 7 ≡ freshCall z ns es ws
+  unfolding freshCall
+  fresh-short h = rw (ne-eqb _ _ h)
+
+  module _ (ns′ es′ : List ℕ) (o : Opened) (long : length ws ≡ 147) (call : opened ns′ es′ o ≡ freshOf z ns es) where
+    pub fresh-ready : (c : Counters) (ws′ : List ℕ) → o ≡ Opened.Ready c → ws′ ≡ freshWords ws c
+        → cleared ns′ es′ ws′ 0 ≡ freshCall z ns es ws
+    unfolding freshCall
+    fresh-ready c ws′ e h = rw (eq-eqb _ _ long, ← call, e, h)
+
+    pub fresh-refused : (why : Refusal) (n : ℕ) → o ≡ Opened.Refused why → n ≡ refusalNumber why
+        → cleared ns′ es′ ws n ≡ freshCall z ns es ws
+    unfolding freshCall
+    fresh-refused why n e h = rw (eq-eqb _ _ long, ← call, e, h)
+
+pub ruleset freshened = (fresh-short, fresh-ready, fresh-refused)
+
+-- ---- start
+module _ (z : Size) (ns es ws out : List ℕ) (who : ℕ) where
+  pub starts-record : (op : Op) (s : Session) (r : Started) (w : Words) (ws′ out′ : List ℕ) (n : ℕ)
+      → r ≡ startOf z ns es who s op → w ≡ encode (r .session) → ws′ ≡ putRecord ws who w
+      → told out′ n ≡ answered out (r .answer) → heard ws′ out′ n ≡ startRecord z ns es ws out who op s
+  unfolding startRecord
+  starts-record op s r w ws′ out′ n call e h i = rw (← call, h, e) (cc)
+
+  module _ (w : Words) (d : Decoded) (op : Op) (words : w ≡ recordAt ws who) (read : d ≡ decode w) where
+    pub starts-decoded : (s : Session) (t : Heard) → d ≡ Decoded.Record s → t ≡ startRecord z ns es ws out who op s
+        → t ≡ startSession z ns es ws out who op
+    unfolding startSession
+    starts-decoded s t e h = rw (← words, ← read, e, h)
+
+    pub starts-malformed : (out′ : List ℕ) (n : ℕ) → d ≡ Decoded.Malformed → told out′ n ≡ refusal out 8
+        → heard ws out′ n ≡ startSession z ns es ws out who op
+    unfolding startSession
+    starts-malformed out′ n e h = rw (← words, ← read, e) (cc)
+
+  module _ (kind first second : ℕ) where
+    pub start-silent : (length out ≡ 3 → ⊥) → heard ws out 7 ≡ startCall z ns es ws out who kind first second
+    unfolding startCall
+    start-silent h = rw (ne-eqb _ _ h)
+
+    module _ (b : Bool) (three : length out ≡ 3) (test : b ≡ lengthsFit z ns es ws) where
+      pub start-lengths : (out′ : List ℕ) (n : ℕ) → b ≡ false → told out′ n ≡ refusal out 7
+          → heard ws out′ n ≡ startCall z ns es ws out who kind first second
+      unfolding startCall
+      start-lengths out′ n h e = rw (eq-eqb _ _ three, ← test, h) (cc)
+
+      pub start-session : (out′ : List ℕ) (n : ℕ) → b ≡ true → 16 ≤ who → told out′ n ≡ refusal out 1
+          → heard ws out′ n ≡ startCall z ns es ws out who kind first second
+      unfolding startCall
+      start-session out′ n h past e = rw (eq-eqb _ _ three, ← test, h, le-ltb _ _ past) (cc)
+
+      pub start-goes : (op : Op) (t : Heard) → b ≡ true → who < 16 → op ≡ opFrom kind first second
+          → t ≡ startSession z ns es ws out who op → t ≡ startCall z ns es ws out who kind first second
+      unfolding startCall
+      start-goes op t h known o e = rw (eq-eqb _ _ three, ← test, h, lt-ltb _ _ known, ← o, e)
+
+pub ruleset start-sessions = (starts-decoded, starts-malformed)
+
+pub ruleset starts = (start-silent, start-lengths, start-session, start-goes)
+
+-- ---- step
+module _ (z : Size) (ns es ws out : List ℕ) (who : ℕ) where
+  pub steps-record : (s : Session) (c : Counters) (r : Stepped) (ns′ es′ ws′ out′ : List ℕ) (n : ℕ)
+      → c ≡ countersAt ws → done ns′ es′ r ≡ stepOf z ns es c who s → ws′ ≡ kept ws who (r .counters) (r .session)
+      → told out′ n ≡ answered out (r .answer) → left ns′ es′ ws′ out′ n ≡ stepRecord z ns es ws out who s
+  unfolding stepRecord
+  steps-record s c r ns′ es′ ws′ out′ n k call h i = rw (← k, ← call, h) (cc)
+
+  module _ (w : Words) (d : Decoded) (words : w ≡ recordAt ws who) (read : d ≡ decode w) where
+    pub steps-decoded : (s : Session) (t : Left) → d ≡ Decoded.Record s → t ≡ stepRecord z ns es ws out who s
+        → t ≡ stepSession z ns es ws out who
+    unfolding stepSession
+    steps-decoded s t e h = rw (← words, ← read, e, h)
+
+    pub steps-malformed : (out′ : List ℕ) (n : ℕ) → d ≡ Decoded.Malformed → told out′ n ≡ refusal out 8
+        → left ns es ws out′ n ≡ stepSession z ns es ws out who
+    unfolding stepSession
+    steps-malformed out′ n e h = rw (← words, ← read, e) (cc)
+
+  pub step-silent : (length out ≡ 3 → ⊥) → left ns es ws out 7 ≡ stepCall z ns es ws out who
+  unfolding stepCall
+  step-silent h = rw (ne-eqb _ _ h)
+
+  module _ (b : Bool) (three : length out ≡ 3) (test : b ≡ lengthsFit z ns es ws) where
+    pub step-lengths : (out′ : List ℕ) (n : ℕ) → b ≡ false → told out′ n ≡ refusal out 7
+        → left ns es ws out′ n ≡ stepCall z ns es ws out who
+    unfolding stepCall
+    step-lengths out′ n h e = rw (eq-eqb _ _ three, ← test, h) (cc)
+
+    pub step-session : (out′ : List ℕ) (n : ℕ) → b ≡ true → 16 ≤ who → told out′ n ≡ refusal out 1
+        → left ns es ws out′ n ≡ stepCall z ns es ws out who
+    unfolding stepCall
+    step-session out′ n h past e = rw (eq-eqb _ _ three, ← test, h, le-ltb _ _ past) (cc)
+
+    pub step-goes : (t : Left) → b ≡ true → who < 16 → t ≡ stepSession z ns es ws out who
+        → t ≡ stepCall z ns es ws out who
+    unfolding stepCall
+    step-goes t h known e = rw (eq-eqb _ _ three, ← test, h, lt-ltb _ _ known, e)
+
+pub ruleset step-sessions = (steps-decoded, steps-malformed)
+
+pub ruleset steps = (step-silent, step-lengths, step-session, step-goes)

@@ -1,0 +1,2 @@
+-- The calls for other programs.
+pub mod Ffi

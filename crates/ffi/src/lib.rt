@@ -1,0 +1,220 @@
+// The register for other programs (C, Rust): fresh, start and step over lent slices of words.
+// In order: the slices' lengths; answering; fresh; start; step. `words` are 147: the counters and sixteen records (crate
+// packing); `answer` is 3: the answer's name and values. Each call returns 0 or a refusal's number; a refusal changes
+// nothing but the answer; where the answer has another length than 3, nothing at all is written. No call has a
+// `requires`: wrong lengths are refused 7, words that are no record's 8. include/ravencrumb.h declares the calls.
+// Not here: what the calls mean (crate register). Assumes nothing.
+ghost use mathlib.Core.Path.{_≡_};
+ghost use Rattle.terms.specs.Terms.{small};
+ghost use Rattle.ffi.specs.Ffi.{
+  lengthsFit,
+  told,
+  refusal,
+  answered,
+  kept,
+  cleared,
+  freshCall,
+  heard,
+  startRecord,
+  startSession,
+  startCall,
+  left,
+  stepRecord,
+  stepSession,
+  stepCall,
+};
+use encoding::Decoded;
+use register::Opened;
+use steps::Session;
+use terms::Answer;
+use terms::Counters;
+use terms::Op;
+
+fn right_lengths(nodes: &[u32], entries: &[u32], words: &[u32]) -> bool
+    ensures { λ r. ⌜ r ≡ lengthsFit small (now (nodes .entry)) (now (entries .entry)) (now (words .entry)) ⌝ }
+{
+    if nodes.len() == 3072 {
+        if entries.len() == 8192 {
+            return words.len() == 147;
+        }
+        return false;
+    }
+    false
+}
+
+fn refuse(answer: &mut [u32], number: u32) -> u32
+    ensures { λ r. ⌜ told (now (answer .exit)) r ≡ refusal (now (answer .entry)) number ⌝ }
+{
+    let reply = packing::refused(number);
+    packing::put_reply(answer, reply);
+    number
+}
+
+// Puts an answer, and returns what the call returns.
+fn tell(answer: &mut [u32], given: Answer) -> u32
+    ensures { λ r. ⌜ told (now (answer .exit)) r ≡ answered (now (answer .entry)) given ⌝ }
+{
+    let reply = packing::say(given);
+    packing::put_reply(answer, reply);
+    packing::number_in(reply)
+}
+
+// Puts what a step returns beside the tables and the answer.
+fn keep(words: &mut [u32], who: u32, c: Counters, s: Session)
+    ensures { λ _. ⌜ now (words .exit) ≡ kept (now (words .entry)) who c s ⌝ }
+{
+    let w = encoding::encode_session(s);
+    packing::put_counters(words, c);
+    packing::put_record(words, who, w);
+}
+
+#[no_mangle]
+pub extern "C" fn ravencrumb_fresh(nodes: &mut [u32], entries: &mut [u32], words: &mut [u32]) -> u32
+    ensures { λ r. ⌜ cleared (now (nodes .exit)) (now (entries .exit)) (now (words .exit)) r
+        ≡ freshCall small (now (nodes .entry)) (now (entries .entry)) (now (words .entry)) ⌝ }
+{
+    if words.len() == 147 {
+        match register::fresh(nodes, entries) {
+            Opened::Ready(counters) => {
+                packing::fresh_words(words, counters);
+                return 0;
+            }
+            Opened::Refused(why) => {
+                return packing::refusal_number(why);
+            }
+        }
+    }
+    7
+}
+
+fn start_record(
+    nodes: &[u32],
+    entries: &[u32],
+    words: &mut [u32],
+    answer: &mut [u32],
+    who: u32,
+    s: Session,
+    op: Op,
+) -> u32
+    ensures { λ r. ⌜ heard (now (words .exit)) (now (answer .exit)) r
+        ≡ startRecord small (now (nodes .entry)) (now (entries .entry)) (now (words .entry)) (now (answer .entry))
+        who op s ⌝ }
+{
+    let out = register::start(nodes, entries, who, s, op);
+    let session = out.session;
+    let given = out.answer;
+    let w = encoding::encode_session(session);
+    packing::put_record(words, who, w);
+    tell(answer, given)
+}
+
+fn start_session(
+    nodes: &[u32],
+    entries: &[u32],
+    words: &mut [u32],
+    answer: &mut [u32],
+    who: u32,
+    op: Op,
+) -> u32
+    ensures { λ r. ⌜ heard (now (words .exit)) (now (answer .exit)) r
+        ≡ startSession small (now (nodes .entry)) (now (entries .entry)) (now (words .entry)) (now (answer .entry))
+        who op ⌝ }
+{
+    let w = packing::record_at(words, who);
+    match encoding::decode_words(w) {
+        Decoded::Record(s) => start_record(nodes, entries, words, answer, who, s, op),
+        Decoded::Malformed => refuse(answer, 8),
+    }
+}
+
+// Kind 1 insert (key, value), 2 remove (key), 3 has (key), 4 range (low, high). Any other names no key: refused 3.
+#[no_mangle]
+pub extern "C" fn ravencrumb_start(
+    nodes: &[u32],
+    entries: &[u32],
+    words: &mut [u32],
+    answer: &mut [u32],
+    who: u32,
+    kind: u32,
+    first: u32,
+    second: u32,
+) -> u32
+    ensures { λ r. ⌜ heard (now (words .exit)) (now (answer .exit)) r
+        ≡ startCall small (now (nodes .entry)) (now (entries .entry)) (now (words .entry)) (now (answer .entry))
+        who kind first second ⌝ }
+{
+    if answer.len() == 3 {
+        if right_lengths(nodes, entries, words) {
+            if 16 <= who {
+                return refuse(answer, 1);
+            }
+            let op = encoding::op_from(kind, first, second);
+            return start_session(nodes, entries, words, answer, who, op);
+        }
+        return refuse(answer, 7);
+    }
+    7
+}
+
+fn step_record(
+    nodes: &mut [u32],
+    entries: &mut [u32],
+    words: &mut [u32],
+    answer: &mut [u32],
+    who: u32,
+    s: Session,
+) -> u32
+    ensures { λ r. ⌜ left (now (nodes .exit)) (now (entries .exit)) (now (words .exit)) (now (answer .exit)) r
+        ≡ stepRecord small (now (nodes .entry)) (now (entries .entry)) (now (words .entry)) (now (answer .entry))
+        who s ⌝ }
+{
+    let c = packing::counters_at(words);
+    let out = register::step(nodes, entries, c, who, s);
+    let counters = out.counters;
+    let session = out.session;
+    let given = out.answer;
+    keep(words, who, counters, session);
+    tell(answer, given)
+}
+
+fn step_session(
+    nodes: &mut [u32],
+    entries: &mut [u32],
+    words: &mut [u32],
+    answer: &mut [u32],
+    who: u32,
+) -> u32
+    ensures { λ r. ⌜ left (now (nodes .exit)) (now (entries .exit)) (now (words .exit)) (now (answer .exit)) r
+        ≡ stepSession small (now (nodes .entry)) (now (entries .entry)) (now (words .entry)) (now (answer .entry))
+        who ⌝ }
+{
+    let w = packing::record_at(words, who);
+    match encoding::decode_words(w) {
+        Decoded::Record(s) => step_record(nodes, entries, words, answer, who, s),
+        Decoded::Malformed => refuse(answer, 8),
+    }
+}
+
+#[no_mangle]
+pub extern "C" fn ravencrumb_step(
+    nodes: &mut [u32],
+    entries: &mut [u32],
+    words: &mut [u32],
+    answer: &mut [u32],
+    who: u32,
+) -> u32
+    ensures { λ r. ⌜ left (now (nodes .exit)) (now (entries .exit)) (now (words .exit)) (now (answer .exit)) r
+        ≡ stepCall small (now (nodes .entry)) (now (entries .entry)) (now (words .entry)) (now (answer .entry))
+        who ⌝ }
+{
+    if answer.len() == 3 {
+        if right_lengths(nodes, entries, words) {
+            if 16 <= who {
+                return refuse(answer, 1);
+            }
+            return step_session(nodes, entries, words, answer, who);
+        }
+        return refuse(answer, 7);
+    }
+    7
+}
