@@ -1,6 +1,6 @@
 -- Each way out of the calls for other programs, over plain values.
 -- In order: lengths; a refusal; fresh; start; step. Assumes nothing.
-use Prim.Native.Nat.{ℕ, _≤_, _<_}
+use Prim.Native.Nat.{ℕ, _≤_, _<_, _%_}
 use mathlib.Core.Path.{_≡_, ap, _∙_}
 use mathlib.Core.List.{List}
 use mathlib.Core.Bool.{Bool, true, false}
@@ -19,14 +19,17 @@ use Rattle.steps.specs.Steps.{Done, done}
 use Rattle.register.specs.declared.Started.{Started}
 use Rattle.register.specs.declared.Opened.{Opened}
 use Rattle.register.specs.Register.{fits, opened, freshOf, startOf, stepOf}
+use Rattle.listing.specs.Listing.{done as listed, writeOf}
+use Rattle.listing.specs.declared.Written.{Written}
 use Rattle.encoding.specs.declared.Words.{Words}
 use Rattle.encoding.specs.declared.Decoded.{Decoded}
 use Rattle.encoding.specs.Encoding.{encode, opFrom, decode}
 use Rattle.packing.specs.declared.Reply.{Reply}
 use Rattle.packing.specs.Packing.{countersAt, putCounters, recordAt, putRecord, freshWords, refusedBy, replyOf}
-use Rattle.packing.specs.Packing.{numberOf, putReply}
+use Rattle.packing.specs.Packing.{replyWith, numberOf, putReply}
 use Rattle.ffi.specs.Ffi.{lengthsFit, told, refusal, answered, kept, cleared, freshCall, Heard, heard}
 use Rattle.ffi.specs.Ffi.{startRecord, startSession, startCall, Left, left, stepRecord, stepSession, stepCall}
+use Rattle.ffi.specs.Ffi.{given, writtenReply, wrote, writeCall}
 
 -- ---- lengths
 module _ (ns es ws : List ℕ) where
@@ -162,3 +165,27 @@ module _ (z : Size) (ns es ws out : List ℕ) (who : ℕ) where
 pub ruleset step-sessions = (steps-decoded, steps-malformed)
 
 pub ruleset steps = (step-silent, step-lengths, step-session, step-goes)
+
+-- ---- writing a listing
+module _ (w : Written) where
+  pub written-length : (n : ℕ) → w ≡ Written.Length n → replyWith 10 (n % 4294967296) 0 ≡ writtenReply w
+  written-length n e = rw e
+
+  pub written-no-room : (y : Reply) → w ≡ Written.NoRoom → y ≡ refusedBy 11 → y ≡ writtenReply w
+  written-no-room y e h = rw (e, h)
+
+  pub written-bad-pairs : (y : Reply) → w ≡ Written.BadPairs → y ≡ refusedBy 12 → y ≡ writtenReply w
+  written-bad-pairs y e h = rw (e, h)
+
+pub ruleset written = (written-length, written-no-room, written-bad-pairs)
+
+module _ (most stamp : ℕ) (ks vs out answer : List ℕ) where
+  pub write-silent : (length answer ≡ 3 → ⊥) → wrote out answer 7 ≡ writeCall most stamp ks vs out answer
+  unfolding writeCall
+  write-silent h = rw (ne-eqb _ _ h)
+
+  pub write-goes : (out′ answer′ : List ℕ) (w : Written) (y : Reply) (n : ℕ) → length answer ≡ 3
+      → listed out′ w ≡ writeOf most stamp ks vs out → y ≡ writtenReply w → told answer′ n ≡ given answer y
+      → wrote out′ answer′ n ≡ writeCall most stamp ks vs out answer
+  unfolding writeCall
+  write-goes out′ answer′ w y n three call e h = rw (eq-eqb _ _ three, ← call, ← e) (cc)

@@ -1,9 +1,9 @@
 -- The calls for other programs: what each leaves in the lent slices, and the number that it returns.
 -- In order: the slices' lengths; a refusal; fresh (7); start (7, 1, 8, then 2, 3, 4 by the register); step (7, 1, 8, then
--- 5 and 8 by the register). `z` is the size, `ns` and `es` are the tables, `ws` the counters' and records' words, `out`
+-- 5 and 8 by the register); writing a listing (12, 11). `z` is the size, `ns` and `es` are the tables, `ws` the counters' and records' words, `out`
 -- the answer's. A refusal changes nothing but the answer (proofs/Kept.antt); an answer of another length than 3 stays.
 -- Not here: the register's calls (crate register), where words lie (crate packing). Assumes nothing.
-use Prim.Native.Nat.{ℕ}
+use Prim.Native.Nat.{ℕ, _%_}
 use mathlib.Core.List.{List}
 use mathlib.Core.Bool.{Bool, cond, _&&_}
 use lib.ListN.{length}
@@ -18,11 +18,13 @@ use Rattle.steps.specs.Steps.{Done, done}
 use Rattle.register.specs.declared.Started.{Started}
 use Rattle.register.specs.declared.Opened.{Opened}
 use Rattle.register.specs.Register.{fits, Fresh, opened, freshOf, startOf, stepOf}
+use Rattle.listing.specs.Listing.{Done as ListingDone, done as listed, writeOf}
+use Rattle.listing.specs.declared.Written.{Written}
 use Rattle.encoding.specs.declared.Decoded.{Decoded}
 use Rattle.encoding.specs.Encoding.{encode, opFrom, decode}
 use Rattle.packing.specs.declared.Reply.{Reply}
 use Rattle.packing.specs.Packing.{countersAt, putCounters, recordAt, putRecord, freshWords, refusedBy, replyOf}
-use Rattle.packing.specs.Packing.{numberOf, putReply}
+use Rattle.packing.specs.Packing.{replyWith, numberOf, putReply}
 
 -- ---- the slices' lengths: two tables of the size, three counters and sixteen records of nine words, three words of
 -- answer
@@ -114,3 +116,26 @@ stepSession z ns es ws out who =
 unfoldable pub stepCall : Size → List ℕ → List ℕ → List ℕ → List ℕ → ℕ → Left
 stepCall z ns es ws out who =
     checked z ns es ws out who (left ns es ws out 7) (stays ns es ws out) (stepSession z ns es ws out who)
+
+-- ---- a reply, put and returned
+abbrev pub given : List ℕ → Reply → Told
+given out r = told (putReply out r) (numberOf r)
+
+-- ---- writing a listing (12, 11): the output, the answer (name 10 and the length) and the number returned
+abbrev pub asWord : ℕ → ℕ
+asWord n = n % 4294967296
+
+abbrev pub writtenReply : Written → Reply
+writtenReply (Written.Length n) = replyWith 10 (asWord n) 0
+writtenReply Written.NoRoom = refusedBy 11
+writtenReply Written.BadPairs = refusedBy 12
+
+pub data Wrote : Type 0 where
+  wrote : List ℕ → List ℕ → ℕ → Wrote
+
+abbrev pub afterWrite : List ℕ → ListingDone → Wrote
+afterWrite answer (listed out w) = wrote out (putReply answer (writtenReply w)) (numberOf (writtenReply w))
+
+unfoldable pub writeCall : ℕ → ℕ → List ℕ → List ℕ → List ℕ → List ℕ → Wrote
+writeCall most stamp ks vs out answer =
+    cond (eqb (length answer) 3) (afterWrite answer (writeOf most stamp ks vs out)) (wrote out answer 7)

@@ -1,5 +1,5 @@
 // The register for other programs (C, Rust): fresh, start and step over lent slices of words.
-// In order: the slices' lengths; answering; fresh; start; step. `words` are 147: the counters and sixteen records (crate
+// In order: the slices' lengths; answering; fresh; start; step; writing a listing. `words` are 147: the counters and sixteen records (crate
 // packing); `answer` is 3: the answer's name and values. Each call returns 0 or a refusal's number; a refusal changes
 // nothing but the answer; where the answer has another length than 3, nothing at all is written. No call has a
 // `requires`: wrong lengths are refused 7, words that are no record's 8. include/ravencrumb.h declares the calls.
@@ -22,8 +22,15 @@ ghost use Rattle.ffi.specs.Ffi.{
   stepRecord,
   stepSession,
   stepCall,
+  given,
+  writtenReply,
+  wrote,
+  writeCall,
 };
+ghost use Rattle.listing.specs.Listing.{keyRoom};
 use encoding::Decoded;
+use listing::Written;
+use packing::Reply;
 use register::Opened;
 use steps::Session;
 use terms::Answer;
@@ -215,6 +222,48 @@ pub extern "C" fn ravencrumb_step(
             return step_session(nodes, entries, words, answer, who);
         }
         return refuse(answer, 7);
+    }
+    7
+}
+
+// Puts a reply, and returns what the call returns.
+fn give(answer: &mut [u32], reply: Reply) -> u32
+    ensures { λ r. ⌜ told (now (answer .exit)) r ≡ given (now (answer .entry)) reply ⌝ }
+{
+    packing::put_reply(answer, reply);
+    packing::number_in(reply)
+}
+
+// A length as a word: no listing is that long that it would not fit.
+fn written_reply(w: Written) -> Reply
+    ensures { λ r. ⌜ r ≡ writtenReply w ⌝ }
+{
+    match w {
+        Written::Length(n) => Reply {
+            name: 10,
+            first: (n % 4294967296) as u32,
+            second: 0,
+        },
+        Written::NoRoom => packing::refused(11),
+        Written::BadPairs => packing::refused(12),
+    }
+}
+
+#[no_mangle]
+pub extern "C" fn ravencrumb_write(
+    stamp: u32,
+    keys: &[u32],
+    values: &[u32],
+    out: &mut [u8],
+    answer: &mut [u32],
+) -> u32
+    ensures { λ r. ⌜ wrote (now (out .exit)) (now (answer .exit)) r
+        ≡ writeCall keyRoom stamp (now (keys .entry)) (now (values .entry)) (now (out .entry)) (now (answer .entry)) ⌝ }
+{
+    if answer.len() == 3 {
+        let w = listing::write(stamp, keys, values, out);
+        let reply = written_reply(w);
+        return give(answer, reply);
     }
     7
 }
