@@ -1,2 +1,3 @@
--- Each way through the packing's functions.
+-- Each way through the packing's functions; putting back what is there.
 pub mod Ways
+pub mod Same
