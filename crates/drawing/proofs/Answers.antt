@@ -1,15 +1,14 @@
 -- Each answer is right (demand 2, one step at a time); and what a range has handed out is a first part of its answer.
 -- In order: pred at a good Check; has's node at its last step; Finish; all answers; the first part.
 -- Assumes nothing.
-use mathlib.Core.Path.{_≡_, refl, sym, _∙_, ap}
-use mathlib.Core.Bool.{true, false}
+use mathlib.Core.Path.{_≡_, sym, _∙_, ap}
 use mathlib.Core.Option.{some}
 use mathlib.Core.List.{List, [], _∷_, _++_, map, append-assoc, append-nil}
 use Prim.Native.Nat.{ℕ, _≤_, _<_}
 use native.Mathlib.Omega.{arith}
 use Rattle.order.specs.Set.{Pair, within, Update, insert, remove}
 use Rattle.order.specs.Rows.{found, readNewest}
-use Rattle.order.specs.History.{head, next, Start, entry}
+use Rattle.order.specs.History.{next, Start, entry}
 use Rattle.order.proofs.Near.{still-in, set-lacks, set-has}
 use Rattle.drawing.specs.Phases.{upd, has, Phase, checking, finishing, seeking, following, handing, task}
 use Rattle.drawing.specs.Drawing.{shown, Drawing}
@@ -50,6 +49,24 @@ module _ (key val : ℕ → ℕ) (start : Start) (m : Drawing) (I : Inv key val 
   handed-first low high x s handed F =
       let rest = map (entry key val) (within key low high (F .ahead)) in
       (rest, record { late = F .late; in-past = F .in-past; right = F .whole })
+
+  -- at any moment the keys handed out are a first part of the answer
+  pub following-first : (low high x s : ℕ) (handed : List Pair) → m .phase t ≡ following low high x s handed →
+      (rest : List Pair) × Answer key val start m t low high s (handed ++ rest)
+  following-first low high x s handed e = handed-first low high x s handed (its (following low high x s handed) e)
+
+  pub handing-first : (low high x s : ℕ) (handed : List Pair) → m .phase t ≡ handing low high x s handed →
+      (rest : List Pair) × Answer key val start m t low high s (handed ++ rest)
+  handing-first low high x s handed e =
+      let F = its (handing low high x s handed) e .2 in
+      let rest = map (entry key val) (within key low high (F .ahead)) in (
+        entry key val x ∷ rest,
+        record {
+          late = F .late;
+          in-past = F .in-past;
+          right = sym (append-assoc handed (entry key val x ∷ []) rest) ∙ F .whole;
+        },
+      )
 
   end-right : (low high x s q : ℕ) (handed : List Pair) → Ranging key val start m t low high x s handed →
       next (m .rows) s x ≡ some q → high < key q → Answer key val start m t low high s handed

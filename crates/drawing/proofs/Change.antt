@@ -1,16 +1,16 @@
 -- Functions changed at one place or two; locks given up; bundles told apart.
 -- In order: one place; two places; locks; bundles.
 -- Assumes nothing.
-use mathlib.Core.Path.{_≡_, refl, sym, _∙_, ap}
+use mathlib.Core.Path.{_≡_, refl, _∙_, ap}
 use mathlib.Core.Logic.{_⊎_, inl, inr, _≢_}
 use mathlib.Core.Option.{Option, none, some}
 use Prim.Native.Nat.{ℕ}
 use native.Mathlib.Omega.{arith}
-use borrow.Author.Tests.{ne-eqb}
+use borrow.Author.Tests.{eq-eqb}
 use Rattle.order.specs.Rows.{Row}
 use Rattle.order.proofs.Tests.{eqb-cases}
 use Rattle.order.proofs.Rows.{some-same}
-use Rattle.drawing.specs.Drawing.{change, without, Owned, final, pending}
+use Rattle.drawing.specs.Drawing.{change, without, release, Owned, final, pending}
 
 -- ---- one place
 pub change-cases : {A : Type 0} (P : A → Type 0) (f : ℕ → A) (x : ℕ) (v : A) (y : ℕ) →
@@ -41,6 +41,10 @@ pair-first f p y a b p≢y = change-other (change f p a) y b p p≢y ∙ change-
 clash : {P : Type 0} (w : ℕ) → none ≡ some w → P
 clash w e = let z : _≡_ {A = ℕ} 0 1 = cc in absurd (omega arith)
 
+without-nothing : (t : ℕ) → without t none ≡ none
+unfolding without
+without-nothing t = refl
+
 pub without-none : (t : ℕ) (o : Option ℕ) → without t o ≡ none → (o ≡ none) ⊎ (o ≡ some t)
 unfolding without
 without-none t none = λ _. inl refl
@@ -60,6 +64,18 @@ unfolding without
 without-other t none u u≢t e = e
 without-other t (some w) u u≢t e =
     eqb-cases (λ a. a ≡ some u) w t none (some w) (λ w≡t. absurd (u≢t (some-same e refl ∙ w≡t))) (λ _. e)
+
+-- giving up all one's locks frees those that one holds, and no other
+pub release-mine : (t : ℕ) (lock : ℕ → Option ℕ) (x : ℕ) → lock x ≡ some t → release t lock x ≡ none
+unfolding without
+release-mine t lock x mine = rw (mine, without, eq-eqb t t refl)
+
+pub release-other : (t : ℕ) (lock : ℕ → Option ℕ) (x : ℕ) → lock x ≢ some t → release t lock x ≡ lock x
+release-other t lock x other = go (lock x) other
+  where
+    go : (o : Option ℕ) → o ≢ some t → without t o ≡ o
+    go none n = without-nothing t
+    go (some w) n = without-other t (some w) w (λ z. n (ap some z)) refl
 
 -- ---- bundles
 pub final-pending : {P : Type 0} (b : Owned) (t c g : ℕ) (r r₂ : Row) → b ≡ final r → b ≡ pending t c g r₂ → P

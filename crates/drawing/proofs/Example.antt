@@ -1,29 +1,30 @@
 -- Guards against the vacuous: document 002's Figure 1 begins with an insert of 20, and that runs to its end here;
 -- a range that begins between its Number and its Finish waits; and two broken drawings have no invariant.
--- In order: the figure's keys; the insert, drawing by drawing; the waiting range; the broken drawings.
+-- In order: the figure's keys; the insert, drawing by drawing; a has and a remove; the waiting range; the broken
+-- drawings.
 -- Assumes nothing.
 use mathlib.Core.Path.{_≡_, refl}
-use mathlib.Core.Bool.{true, false}
+use mathlib.Core.Bool.{false}
 use mathlib.Core.Logic.{inl, inr}
 use mathlib.Core.Option.{none}
-use Rattle.order.proofs.Rows.{none-some}
-use Rattle.drawing.proofs.Room.{on-used}
-use mathlib.Core.List.{List, [], _∷_, List·Memᴰ·head}
-use Prim.Native.Nat.{ℕ, suc}
+use mathlib.Core.List.{[], _∷_, List·Memᴰ·head}
+use Prim.Native.Nat.{ℕ}
 use native.Mathlib.Omega.{arith}
 use lib.ListN.{getD}
-use Rattle.order.specs.Set.{insert, setAfter, put}
+use Rattle.order.specs.Set.{insert, remove, setAfter, put}
 use Rattle.order.specs.Rows.{readAt, readNewest}
-use Rattle.order.specs.History.{head, ins, empty, setOf, push, linked}
-use Rattle.drawing.specs.Phases.{upd, range, idle, walking, locking, checking, preparing, numbering, linking}
-use Rattle.drawing.specs.Phases.{finishing, fixing, following}
+use Rattle.order.specs.History.{head, ins, rem, empty, setOf, linked}
+use Rattle.order.proofs.Rows.{none-some}
+use Rattle.drawing.specs.Phases.{upd, has, range, idle, walking, locking, checking, preparing, numbering}
+use Rattle.drawing.specs.Phases.{linking, finishing, fixing, following}
 use Rattle.drawing.specs.Drawing.{change, without, plainly, Drawing, beginning}
-use Rattle.drawing.specs.Effects.{stays, holds, leaves, lays, numbers, links, finishes, after, begun}
-use Rattle.drawing.specs.Steps.{Out, inserted, Step, Waits, Reached, begins, started, stepped, starts}
-use Rattle.drawing.specs.Steps.{walk-arrive, lock-pred, check-pass, prepare-insert, number-it, link-it}
-use Rattle.drawing.specs.Steps.{finish-it, fix-it}
+use Rattle.drawing.specs.Effects.{stays, holds, lays, numbers, links, finishes, after, begun}
+use Rattle.drawing.specs.Steps.{present, inserted, removed, Step, Waits, Reached, begins, started, stepped}
+use Rattle.drawing.specs.Steps.{starts, walk-arrive, lock-pred, lock-curr, check-pass, prepare-insert}
+use Rattle.drawing.specs.Steps.{prepare-remove, number-it, link-it, finish-it, seek-present, fix-it}
 use Rattle.drawing.specs.Answers.{Right}
 use Rattle.drawing.proofs.Inv.{Inv}
+use Rattle.drawing.proofs.Room.{on-used}
 use Rattle.drawing.proofs.Reached.{reached-inv, reached-answers}
 
 -- ---- node 2 has key 20 and value 7
@@ -93,6 +94,40 @@ one-inv = reached-inv key val empty (omega arith, tt) reached₇
 
 pub one-right : Right key val empty m₇ 0 (inserted 1)
 one-right = reached-answers key val empty (omega arith, tt) reached₇ 0 finishes-one
+
+-- ---- then session 2 finds 20 with a has, and session 0 removes it: removed with number 2, and the set is empty
+abbrev m₈ : Drawing
+m₈ = after empty m₇ 0 (finishes (insert 20 7) 0 2 1 1 ((0, 1) ∷ []) []) idle
+
+reached₈ : Reached key val empty m₈
+reached₈ = stepped 0 reached₇ finishes-one
+
+pub has-finds : (m : Drawing) × Reached key val empty m × Step key val empty 2 m present stays idle
+unfolding beginning change without linked plainly readNewest
+has-finds = (
+  _,
+  stepped 2 (started 2 reached₈ (starts (has 20) refl (omega arith, omega arith)))
+      (walk-arrive (has 20) 0 2 refl (omega arith)),
+  seek-present 20 0 2 refl refl refl,
+)
+
+pub remove-runs : (m : Drawing) × Reached key val empty m × (m .log ≡ rem 2 ∷ ins 2 ∷ [])
+    × Step key val empty 0 m (removed 2) (finishes (remove 20) 0 2 1 2 ((1, 2) ∷ (0, 1) ∷ []) ((1, 1) ∷ [])) idle
+unfolding beginning change without linked plainly
+remove-runs = (
+  _,
+  stepped 0 (stepped 0 (stepped 0 (stepped 0 (stepped 0 (stepped 0 (stepped 0 (started 0 reached₈
+      (starts (upd (remove 20)) refl (omega arith, omega arith)))
+      (walk-arrive (upd (remove 20)) 0 2 refl (omega arith)))
+      (lock-pred (remove 20) 0 2 refl (λ w e. none-some none w refl e)))
+      (lock-curr 20 0 2 refl (λ w e. none-some none w refl e)))
+      (check-pass (remove 20) 0 2 refl (refl, refl, refl) refl))
+      (prepare-remove 20 0 2 ((1, 2) ∷ (0, 1) ∷ []) ((1, 1) ∷ []) refl refl refl))
+      (number-it (remove 20) 0 2 1 1 refl))
+      (link-it (remove 20) 0 2 1 1 2 refl),
+  refl,
+  finish-it (remove 20) 0 2 1 1 2 ((1, 2) ∷ (0, 1) ∷ []) ((1, 1) ∷ []) refl refl refl,
+)
 
 -- ---- session 1 begins a range after the Number: it fixes snapshot 1, and waits for the entry that carries 0
 abbrev w₁ : Drawing

@@ -2,16 +2,16 @@
 -- In order: cases; what a wait is for; Check; has's Follow; a range's Follow; every session; never both.
 -- Not here: that not all wait. Assumes nothing.
 use mathlib.Core.Path.{_≡_, refl, sym, _∙_, ap}
-use mathlib.Core.Logic.{_⊎_, inl, inr, ⊎-elim, ⊎-map, _≢_}
+use mathlib.Core.Logic.{_⊎_, inl, inr, ⊎-elim, ⊎-map}
 use mathlib.Core.Bool.{Bool, true, false}
 use mathlib.Core.Option.{Option, none, some}
 use mathlib.Core.List.{List, [], _∷_}
-use Prim.Native.Nat.{ℕ, _≤_, _<_}
+use Prim.Native.Nat.{ℕ, _<_}
 use native.Mathlib.Decide.{decLe, decLt, ℕ-discrete}
 use native.Mathlib.Omega.{arith}
 use Rattle.order.specs.Set.{Pair, Update, insert, remove}
-use Rattle.order.specs.Rows.{Row, look, newest, Seen, wait, found, readAt, readNewest}
-use Rattle.order.specs.History.{head, next, Start}
+use Rattle.order.specs.Rows.{Row, newest, Seen, wait, found, readAt, readNewest}
+use Rattle.order.specs.History.{next, Start}
 use Rattle.order.proofs.Tests.{ltb-cases}
 use Rattle.order.proofs.Rows.{some-same}
 use Rattle.order.proofs.Rules.{wait-found}

@@ -5,18 +5,18 @@
 -- Not here: that steps keep it (Keeps). Assumes nothing.
 use mathlib.Core.Path.{_≡_}
 use mathlib.Core.Logic.{_⊎_, _≢_}
-use mathlib.Core.Bool.{Bool, true, false}
+use mathlib.Core.Bool.{false}
 use mathlib.Core.Option.{Option, none, some}
 use mathlib.Core.List.{List, [], _∷_, _++_, map, List·Memᴰ}
-use Prim.Native.Nat.{ℕ, suc, _≤_, _<_}
+use Prim.Native.Nat.{ℕ, _≤_, _<_}
 use Rattle.order.specs.Set.{Pair, keyOf, within, Update, insert, remove}
 use Rattle.order.specs.Rows.{Row}
 use Rattle.order.specs.History.{head, tail, next, ins, rem, Log, Removed, Start, upTo, Given, entry, setOf, members}
 use Rattle.order.specs.History.{History}
-use Rattle.drawing.specs.Phases.{Op, upd, has, range, keyIn, sought, predTarget, nodeTarget, oldNext, OfRemove}
+use Rattle.drawing.specs.Phases.{upd, has, range, keyIn, sought, predTarget, nodeTarget, oldNext, OfRemove}
 use Rattle.drawing.specs.Phases.{Phase, idle, walking, locking, lockingCurr, checking, preparing, numbering}
 use Rattle.drawing.specs.Phases.{linking, finishing, seeking, fixing, following, handing}
-use Rattle.drawing.specs.Drawing.{Owned, final, pending, Drawing, now}
+use Rattle.drawing.specs.Drawing.{final, pending, Drawing, now}
 use Rattle.drawing.specs.Steps.{Good, Fine, Meets}
 use Rattle.drawing.specs.Answers.{Numbered}
 use Rattle.drawing.proofs.Ahead.{Ahead}

@@ -4,29 +4,28 @@
 use mathlib.Core.Path.{_≡_, refl, sym, _∙_, ap}
 use mathlib.Core.Logic.{_⊎_, inl, inr, ⊎-elim, ⊎-map, _≢_}
 use mathlib.Core.Option.{Option, none, some}
-use mathlib.Core.List.{List, [], _∷_, _++_, map, append-assoc, List·Memᴰ}
-use Prim.Native.Nat.{ℕ, suc, _-_, _≤_, _<_}
+use mathlib.Core.List.{List, [], _∷_, _++_, map, append-assoc}
+use Prim.Native.Nat.{ℕ, _≤_, _<_}
 use native.Mathlib.Omega.{arith}
 use borrow.Author.Tests.{lt-ltb, le-ltb, le-leb}
 use Rattle.order.specs.Set.{Pair, within, Update, insert, remove}
-use Rattle.order.specs.Rows.{Row, look, found, readAt, readNewest, Effective}
-use Rattle.order.specs.History.{head, tail, next, Start, upTo, Given, entry, members}
+use Rattle.order.specs.Rows.{Row, found, readAt, readNewest, Effective}
+use Rattle.order.specs.History.{head, tail, next, Start, upTo, Given, entry}
 use Rattle.order.proofs.Keeps.{upTo-all}
 use Rattle.order.proofs.Rules.{read-at-right, read-newest-now}
 use Rattle.order.proofs.Frame.{members-given}
-use Rattle.order.proofs.Rows.{some-same}
 use Rattle.drawing.specs.Phases.{Op, upd, has, range, keyIn, sought, predTarget, nodeTarget}
 use Rattle.drawing.specs.Phases.{Phase, idle, walking, locking, lockingCurr, checking, preparing, numbering}
 use Rattle.drawing.specs.Phases.{linking, finishing, seeking, fixing, following, handing, arrived, locked}
 use Rattle.drawing.specs.Drawing.{change, Owned, final, pending, shown, Drawing, now}
-use Rattle.drawing.specs.Effects.{stays, holds, leaves, Effect, after, begun}
+use Rattle.drawing.specs.Effects.{stays, holds, Effect, after, begun}
 use Rattle.drawing.specs.Steps.{Out, Free, Fine, Starts, starts, Step, walk-on, walk-arrive, lock-pred}
 use Rattle.drawing.specs.Steps.{lock-curr, check-again, check-present, check-absent, check-pass, prepare-full}
 use Rattle.drawing.specs.Steps.{prepare-insert, prepare-remove, number-it, link-it, finish-it, seek-on}
 use Rattle.drawing.specs.Steps.{seek-present, seek-absent, fix-it, follow-on, follow-in, follow-end, hand-out}
 use Rattle.drawing.proofs.Change.{change-cases, change-same}
-use Rattle.drawing.proofs.Ahead.{Ahead, ahead-on, Fixed, fixed, snap-target}
-use Rattle.drawing.proofs.Inv.{On, At, lead, Holds, Pends, Coupled, Stand, Reach, Dated, Ranging, Facts, Inv}
+use Rattle.drawing.proofs.Ahead.{ahead-on, fixed, snap-target}
+use Rattle.drawing.proofs.Inv.{On, At, lead, Holds, Pends, Stand, Dated, Ranging, Facts, Inv}
 use Rattle.drawing.proofs.Inv.{Rely, Grant}
 use Rattle.drawing.proofs.Stable
 use Rattle.drawing.proofs.Quiet.{assemble, quiet-rely, stay-step, hold-step, leave-step, begin-step}

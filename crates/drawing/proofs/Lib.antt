@@ -1,8 +1,8 @@
 -- The laws and theorems of the crate, all to be cited by other crates.
 -- In order, each on those before: functions changed at a place; what lies before a reader; the invariant, with rely
 -- and grant; facts are stable; quiet steps, and the invariant put together; Prepare; Number; Link and Finish; every
--- step keeps it; the beginning; every answer is right; nothing is stuck; what refutes Damaged; reached drawings; an
--- example.
+-- step keeps it; the beginning; every answer is right; operations stay; nothing is stuck; not all wait; what refutes
+-- Damaged; the nodes given and the updates laid; reached drawings; an example.
 -- Not here: definitions (specs/). Assumes nothing.
 pub mod Change
 pub mod Ahead
@@ -15,7 +15,10 @@ pub mod Link
 pub mod Keeps
 pub mod Begin
 pub mod Answers
+pub mod Tasks
 pub mod Goes
+pub mod Standstill
 pub mod Room
+pub mod Given
 pub mod Reached
 pub mod Example

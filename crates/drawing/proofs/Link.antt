@@ -2,30 +2,30 @@
 -- In order: the mark; Link; Finish.
 -- Assumes nothing.
 use mathlib.Core.Path.{_≡_, refl, sym, _∙_, ap}
-use mathlib.Core.Logic.{_⊎_, inl, inr, ⊎-elim, _≢_}
-use mathlib.Core.Bool.{Bool, true, false, true≢false}
+use mathlib.Core.Logic.{inl, inr, ⊎-elim, _≢_}
+use mathlib.Core.Bool.{Bool, true, true≢false}
 use mathlib.Core.Option.{none, some}
 use mathlib.Core.List.{[], _∷_}
-use Prim.Native.Nat.{ℕ, _≤_, _<_}
+use Prim.Native.Nat.{ℕ, _<_}
 use native.Mathlib.Omega.{arith}
 use Rattle.order.specs.Set.{Update, insert, remove}
 use Rattle.order.specs.Rows.{Row}
 use Rattle.order.specs.History.{tail, Start}
 use Rattle.order.proofs.Rows.{none-some, some-same}
 use Rattle.drawing.specs.Phases.{Phase, idle, linking, finishing, predTarget, nodeTarget, OfRemove}
-use Rattle.drawing.specs.Drawing.{Owned, final, pending, Drawing, now}
+use Rattle.drawing.specs.Drawing.{final, pending, Drawing}
 use Rattle.drawing.specs.Effects.{marked, links, finishes, after}
 use Rattle.drawing.proofs.Change.{change-cases, change-same, change-other, pair-cases, pair-other}
 use Rattle.drawing.proofs.Change.{without-none, without-some, without-other, final-pending, one-owner, one-row}
 use Rattle.drawing.proofs.Change.{final-same}
-use Rattle.drawing.proofs.Inv.{At, Two, Holds, Coupled, Grip, Sound, Dated, Owing, Facts, Inv, Mine, Rely}
+use Rattle.drawing.proofs.Inv.{At, Two, Coupled, Sound, Dated, Facts, Inv, Mine, Rely}
 use Rattle.drawing.proofs.Inv.{Grant}
 use Rattle.drawing.proofs.Stable.{of-remove, of-remove-map}
 
 -- ---- the mark changes only at a remove's node
 pub marked-other : (u : Update) (y : ℕ) (gone : ℕ → Bool) (x : ℕ) → OfRemove u (x ≢ y) → marked u y gone x ≡ gone x
 marked-other (insert k v) y gone x n = refl
-marked-other (remove k) y gone x n = change-other gone y true x n
+marked-other (remove k) y gone x n = change-other gone y _ x n
 
 pub marked-here : (k y : ℕ) (gone : ℕ → Bool) → marked (remove k) y gone y ≡ true
 marked-here k y gone = change-same gone y true

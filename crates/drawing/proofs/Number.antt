@@ -3,15 +3,15 @@
 -- Assumes nothing.
 use mathlib.Core.Path.{_≡_, refl, sym, _∙_, ap}
 use mathlib.Core.Logic.{_⊎_, inl, inr, ⊎-elim, ⊎-map, _≢_}
-use mathlib.Core.Option.{Option, none, some}
-use mathlib.Core.List.{List, [], _∷_, _++_, List·Memᴰ, List·Memᴰ·head, List·Memᴰ·tail, List·Memᴰ·cases-cons}
+use mathlib.Core.Option.{none, some}
+use mathlib.Core.List.{[], _∷_, List·Memᴰ, List·Memᴰ·head, List·Memᴰ·tail, List·Memᴰ·cases-cons}
 use Prim.Native.Nat.{ℕ, suc, _-_, _≤_, _<_}
 use native.Mathlib.Decide.{ℕ-discrete}
 use native.Mathlib.Omega.{arith}
-use Rattle.order.specs.Set.{put, Update, insert, remove}
+use Rattle.order.specs.Set.{Update, insert, remove}
 use Rattle.order.specs.Rows.{Row}
-use Rattle.order.specs.History.{head, tail, next, number, Logged, ins, rem, Log, Start, stamp, upTo, Given, said}
-use Rattle.order.specs.History.{Chain, members, History}
+use Rattle.order.specs.History.{head, tail, next, number, Logged, rem, Log, Start, stamp, upTo, Given, said}
+use Rattle.order.specs.History.{members, History}
 use Rattle.order.proofs.Rows.{none-some, some-same, Relinked, number-old, number-row, number-rows, number-links}
 use Rattle.order.proofs.Sets.{put-keeps, put-new, cut-keeps}
 use Rattle.order.proofs.Chains.{chain-split, by-key, from-head, to-tail}
@@ -19,12 +19,12 @@ use Rattle.order.proofs.Steps.{given-more, given-ins, given-rem}
 use Rattle.order.proofs.Keeps.{upTo-old, upTo-all, stamp-next, current, divided, history-insert, history-remove}
 use Rattle.order.proofs.Near.{row-fresh, link-between, set-lacks, set-has}
 use Rattle.drawing.specs.Phases.{Phase, numbering, linking, keyIn, predTarget, nodeTarget, oldNext, logged}
-use Rattle.drawing.specs.Drawing.{Owned, final, pending, Drawing, now}
+use Rattle.drawing.specs.Drawing.{final, pending, Drawing, now}
 use Rattle.drawing.specs.Effects.{numbers, after}
 use Rattle.drawing.specs.Answers.{inSet, wasThere, Numbered}
 use Rattle.drawing.proofs.Change.{change-same, change-other, final-pending, one-owner}
-use Rattle.drawing.proofs.Inv.{On, At, lead, Once, Two, Holds, In, Coupled, Grip, Sound, Laid, Dated, Owing}
-use Rattle.drawing.proofs.Inv.{Facts, Inv, Mine, Kept, Rely, Grant}
+use Rattle.drawing.proofs.Inv.{On, At, lead, Once, In, Coupled, Dated}
+use Rattle.drawing.proofs.Inv.{Facts, Inv, Kept, Rely, Grant}
 
 -- ---- keys of the set lie between the head's and the tail's
 module _ (key : ℕ → ℕ) (start : Start) (rows : ℕ → Row) (log : Log) (H : History key start rows log) where

@@ -1,23 +1,23 @@
 -- Prepare keeps the invariant: two pending entries are laid, and no effective row changes.
 -- In order: what laying grants, for both kinds; an insert's Prepare; a remove's.
 -- Assumes nothing.
+use mathlib.Core.List.{[]}
 use mathlib.Core.Path.{_≡_, refl, sym, _∙_, ap}
 use mathlib.Core.Logic.{_⊎_, inl, inr, ⊎-elim, _≢_}
 use mathlib.Core.Bool.{false}
 use mathlib.Core.Option.{some}
-use mathlib.Core.List.{[], _∷_}
-use Prim.Native.Nat.{ℕ, _≤_, _<_}
+use Prim.Native.Nat.{ℕ}
 use native.Mathlib.Omega.{arith}
 use Rattle.order.specs.Set.{Update, insert, remove}
 use Rattle.order.specs.Rows.{Row}
-use Rattle.order.specs.History.{head, tail, Start}
+use Rattle.order.specs.History.{tail, Start}
 use Rattle.order.proofs.Near.{row-given}
-use Rattle.drawing.specs.Phases.{Phase, preparing, numbering, predTarget, nodeTarget}
-use Rattle.drawing.specs.Drawing.{change, Owned, final, pending, Drawing, now}
+use Rattle.drawing.specs.Phases.{Phase, preparing, numbering}
+use Rattle.drawing.specs.Drawing.{change, final, pending, Drawing, now}
 use Rattle.drawing.specs.Effects.{newPlain, newGone, lays, after}
 use Rattle.drawing.proofs.Change.{change-same, change-other, pair-cases, pair-other, pair-first}
 use Rattle.drawing.proofs.Change.{final-pending, one-owner}
-use Rattle.drawing.proofs.Inv.{On, At, Two, Holds, Pends, Coupled, Grip, Sound, Laid, Facts, Inv, Rely, Grant}
+use Rattle.drawing.proofs.Inv.{On, At, Two, Holds, Pends, Coupled, Laid, Facts, Inv, Rely, Grant}
 
 module _ (key val : ℕ → ℕ) (start : Start) (t : ℕ) (m : Drawing) (I : Inv key val start m) where
   module _ (u : Update) (p y z : ℕ) (r r₂ : Row) (final-p : m .bundle p ≡ final r) (final-y : m .bundle y ≡ final r₂)

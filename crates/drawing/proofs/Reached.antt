@@ -1,12 +1,13 @@
--- Every reached drawing has the invariant, answers right and is not stuck.
+-- Every reached drawing has the invariant, answers right, is not stuck, and has a list of the nodes given.
 -- Assumes nothing.
 use mathlib.Core.Path.{_≡_}
 use mathlib.Core.Logic.{_⊎_}
+use mathlib.Core.List.{List}
 use Prim.Native.Nat.{ℕ}
 use Rattle.order.specs.History.{Start, InOrder}
 use Rattle.drawing.specs.Phases.{Phase, idle}
 use Rattle.drawing.specs.Drawing.{Drawing}
-use Rattle.drawing.specs.Effects.{Effect}
+use Rattle.drawing.specs.Effects.{Effect, givenBy}
 use Rattle.drawing.specs.Steps.{Out, Step, Waits, Reached, begins, started, stepped}
 use Rattle.drawing.specs.Answers.{Right}
 use Rattle.drawing.proofs.Inv.{Inv}
@@ -14,6 +15,7 @@ use Rattle.drawing.proofs.Keeps.{start-keeps, step-keeps}
 use Rattle.drawing.proofs.Begin.{begin-inv}
 use Rattle.drawing.proofs.Answers.{answers}
 use Rattle.drawing.proofs.Goes.{Goes, goes-or-waits}
+use Rattle.drawing.proofs.Given.{Listed, listed-beginning, listed-start, listed-step}
 
 module _ (key val : ℕ → ℕ) (start : Start) (in-order : InOrder key start) where
   pub reached-inv : {m : Drawing} → Reached key val start m → Inv key val start m
@@ -28,3 +30,12 @@ module _ (key val : ℕ → ℕ) (start : Start) (in-order : InOrder key start) 
   pub reached-goes : {m : Drawing} → Reached key val start m → (t : ℕ) →
       (m .phase t ≡ idle) ⊎ (Waits t m ⊎ Goes key val start m t)
   reached-goes {m} r t = goes-or-waits key val start m (reached-inv r) t
+
+  -- with the nodes given, each once
+  pub reached-listed : {m : Drawing} → Reached key val start m → (given : List ℕ) × Listed given m
+  reached-listed begins = (start .loaded, listed-beginning key val start in-order)
+  reached-listed (started {m} t {φ} r s) =
+      let g = reached-listed r in (g .0, listed-start start m (g .0) (g .1) t φ)
+  reached-listed (stepped {m} t {f = f} r s) =
+      let g = reached-listed r in
+      (givenBy f (g .0), listed-step key val start m (reached-inv r) (g .0) (g .1) t s)

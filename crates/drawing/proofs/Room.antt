@@ -2,18 +2,19 @@
 -- In order: counting lists without repetition; nodes in use; the nodes that a phase names; where links lead; keys
 -- handed out; the length of the log.
 -- `all` are the nodes in use, the head and the tail left out. Not here: numbers of entries (Laid). Assumes nothing.
-use mathlib.Core.Path.{_≡_, refl, sym, _∙_, ap, subst}
+use mathlib.Core.Path.{_≡_, refl, sym, ap, subst}
 use mathlib.Core.Logic.{_⊎_, inl, inr, ⊎-elim, ⊎-map, _≢_}
 use mathlib.Core.Option.{Option, some}
 use mathlib.Core.List.{List, [], _∷_, _++_, map, List·Memᴰ, List·Memᴰ·head, List·Memᴰ·tail, List·Memᴰ·not-nil}
 use mathlib.Core.List.{List·Memᴰ·cases-cons, Memᴰ·append-left, Memᴰ·append-right, List·Memᴰ·append-cases}
 use Prim.Native.Nat.{ℕ, suc, _+_, _-_, _*_, _≤_, _<_}
+use native.Mathlib.Decide.{decLt}
 use native.Mathlib.Omega.{arith}
 use lib.ListN.{length, length-append, length-map}
-use Rattle.order.specs.Set.{Pair, keyOf, within, Update, insert, remove}
+use Rattle.order.specs.Set.{Pair, keyOf, within, Update}
 use Rattle.order.specs.Rows.{Row, found, readAt, readNewest}
-use Rattle.order.specs.History.{head, tail, next, ins, rem, Log, Removed, Start, stamp, upTo, Given, entry, setOf}
-use Rattle.order.specs.History.{Chain, members, Snap, History}
+use Rattle.order.specs.History.{head, tail, ins, rem, Log, Removed, Start, upTo, Given, entry, setOf}
+use Rattle.order.specs.History.{Chain, members, Snap}
 use Rattle.order.proofs.Tests.{ltb-cases, leb-cases}
 use Rattle.order.proofs.Rows.{some-same}
 use Rattle.order.proofs.Chains.{chain-split, above-start}
@@ -24,11 +25,11 @@ use Rattle.order.proofs.Frame.{members-given, given-first}
 use Rattle.order.proofs.Near.{row-given}
 use Rattle.drawing.specs.Phases.{Phase, idle, walking, locking, lockingCurr, checking, preparing, numbering}
 use Rattle.drawing.specs.Phases.{linking, finishing, seeking, fixing, following, handing}
-use Rattle.drawing.specs.Drawing.{Owned, final, pending, shown, Drawing, now}
+use Rattle.drawing.specs.Drawing.{final, pending, shown, Drawing, now}
 use Rattle.drawing.specs.Effects.{numbers, after}
 use Rattle.drawing.proofs.Change.{final-pending}
 use Rattle.drawing.proofs.Ahead.{Distinct, chain-distinct}
-use Rattle.drawing.proofs.Inv.{On, At, Once, Ranging, Facts, Inv}
+use Rattle.drawing.proofs.Inv.{On, At, Once, Facts, Inv}
 use Rattle.drawing.proofs.Quiet.{assemble}
 use Rattle.drawing.proofs.Number.{number-grants}
 use Rattle.drawing.proofs.Keeps.{read-right, newest-right, past-target, now-target}
@@ -70,6 +71,15 @@ within-length {A} key low high (y ∷ l) =
 -- ---- nodes in use: with an entry, or the tail
 abbrev pub Used : Drawing → ℕ → Type 0
 Used m x = (m .bundle x ≢ final []) ⊎ (x ≡ tail)
+
+-- where no node from `n` on has an entry, the nodes in use are below `n`
+pub used-below : (m : Drawing) (n : ℕ) → 2 ≤ n → ((x : ℕ) → n ≤ x → m .bundle x ≡ final []) →
+    (x : ℕ) → Used m x → x < n
+used-below m n 2≤n beyond x (inl used) = elim (decLt x n) [
+  | yes x<n ↦ x<n
+  | no x≮n ↦ absurd (used (beyond x (omega arith)))
+]
+used-below m n 2≤n beyond x (inr x≡tail) = omega (arith, x≡tail)
 
 -- `all` has every node in use, but for the head and the tail
 abbrev pub Covers : List ℕ → Drawing → Type 0

@@ -1,20 +1,20 @@
 -- Each phase's facts survive what others do.
 -- In order: a remove's part; each record of facts; all phases.
 -- Assumes nothing.
-use mathlib.Core.Path.{_≡_, refl, sym, _∙_, ap, subst}
-use mathlib.Core.Logic.{_⊎_, inl, inr, ⊎-map}
+use mathlib.Core.Path.{_≡_, sym, _∙_, ap}
+use mathlib.Core.Logic.{inl, inr, ⊎-map}
 use mathlib.Core.Option.{some}
 use mathlib.Core.List.{List, [], _∷_, _++_}
-use Prim.Native.Nat.{ℕ, _-_, _≤_, _<_}
+use Prim.Native.Nat.{ℕ, _-_}
 use native.Mathlib.Omega.{arith}
 use Rattle.order.specs.Set.{Pair, Update, insert, remove}
-use Rattle.order.specs.History.{head, Log, Start, upTo, Given, entry}
-use Rattle.drawing.specs.Phases.{Op, keyIn, sought, predTarget, nodeTarget, OfRemove}
+use Rattle.order.specs.History.{Start, entry}
+use Rattle.drawing.specs.Phases.{keyIn, sought, predTarget, nodeTarget, OfRemove}
 use Rattle.drawing.specs.Phases.{Phase, idle, walking, locking, lockingCurr, checking, preparing, numbering}
 use Rattle.drawing.specs.Phases.{linking, finishing, seeking, fixing, following, handing}
-use Rattle.drawing.specs.Drawing.{Drawing, now}
+use Rattle.drawing.specs.Drawing.{Drawing}
 use Rattle.drawing.specs.Steps.{Good}
-use Rattle.drawing.specs.Answers.{inSet, wasThere, Numbered}
+use Rattle.drawing.specs.Answers.{inSet, Numbered}
 use Rattle.drawing.proofs.Inv.{At, Coupled, Stand, Reach, Grip, Sound, Named, Laid, Dated, Owing, Ranging}
 use Rattle.drawing.proofs.Inv.{Facts, Kept, Rely}
 

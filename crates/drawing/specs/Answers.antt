@@ -4,13 +4,13 @@
 use mathlib.Core.Bool.{Bool, true, false}
 use mathlib.Core.Option.{some}
 use mathlib.Core.Path.{_≡_}
-use mathlib.Core.List.{List, [], _∷_, _++_}
+use mathlib.Core.List.{List, _∷_, _++_}
 use Prim.Native.Nat.{ℕ, _-_, _≤_, _<_}
 use Rattle.order.specs.Set.{Pair, keyOf, within, member, Update, insert, remove}
 use Rattle.order.specs.History.{Logged, Log, Start, upTo, said, setOf}
 use Rattle.drawing.specs.Phases.{Op, upd, sought, keyIn, following, handing, task}
 use Rattle.drawing.specs.Drawing.{Drawing, now}
-use Rattle.drawing.specs.Steps.{Out, working, present, absent, full, inserted, removed, key-value, ended, done}
+use Rattle.drawing.specs.Steps.{Out, working, present, absent, full, inserted, removed, key-value, ended}
 
 -- an insert's key was absent, a remove's present
 abbrev pub wasThere : Update → Bool

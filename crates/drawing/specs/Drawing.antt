@@ -2,7 +2,7 @@
 -- In order: functions changed at one place, and locks given up; bundles with an owner; the state; the beginning.
 -- A node is a number that has one key and one value for ever.
 -- Not here: what a step does (Steps), what holds of a reached drawing (proofs/Inv). Assumes nothing.
-use mathlib.Core.Bool.{Bool, true, false, cond}
+use mathlib.Core.Bool.{Bool, false, cond}
 use mathlib.Core.Option.{Option, none, some}
 use mathlib.Core.List.{List, [], _∷_, _++_}
 use Prim.Native.Nat.{ℕ}

@@ -1,10 +1,11 @@
 -- The seven kinds of change that a step makes, and the drawing after one (document 01, Steps).
--- In order: effects; what an effect does to each part of the drawing; the drawing after a step, and after a start.
+-- In order: effects; what an effect does to each part of the drawing; the drawing after a step, and after a start;
+-- the nodes given.
 -- Past Prepare an update has two nodes: pred, and the new or the removed node; `behind` is the one behind that.
 -- Not here: when a step has which effect (Steps). Assumes nothing.
 use mathlib.Core.Bool.{Bool, true, false}
 use mathlib.Core.Option.{Option, some}
-use mathlib.Core.List.{_∷_}
+use mathlib.Core.List.{List, _∷_}
 use Prim.Native.Nat.{ℕ, suc}
 use Rattle.order.specs.Set.{Update, insert, remove}
 use Rattle.order.specs.Rows.{Row}
@@ -122,3 +123,17 @@ begun start m t φ = record {
   phase = change (m .phase) t φ;
   since = change (m .since) t (now start m);
 }
+
+-- ---- the nodes given to keys, the head and the tail left out: an insert's Prepare gives one
+abbrev pub gaveTo : Update → ℕ → List ℕ → List ℕ
+gaveTo (insert k v) node given = node ∷ given
+gaveTo (remove k) node given = given
+
+abbrev pub givenBy : Effect → List ℕ → List ℕ
+givenBy stays given = given
+givenBy (holds x) given = given
+givenBy leaves given = given
+givenBy (lays u p y z r r₂) given = gaveTo u y given
+givenBy (numbers u p y z) given = given
+givenBy (links u p y z) given = given
+givenBy (finishes u p y z n r r₂) given = given

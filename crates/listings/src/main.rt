@@ -63,11 +63,12 @@ fn sum(words: &[u32]) -> u64 {
 
 fn show_loaded(r: Loaded) {
     match r {
-        Loaded::Register {
-            nodes,
-            entries,
-            stamp,
-        } => say::three(b"loaded=", nodes as u64, entries as u64, stamp as u64),
+        Loaded::Register(c) => say::three(
+            b"loaded=",
+            c.nodes as u64,
+            c.entries as u64,
+            c.stamp as u64,
+        ),
         Loaded::BadTable => say::one(b"refused=", 7),
         Loaded::BadListing(p) => say::two(b"refused=", 9, p as u64),
         Loaded::TooMany => say::one(b"refused=", 10),

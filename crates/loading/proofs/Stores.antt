@@ -1,18 +1,27 @@
--- What the words of the tables are after one key more, and after all keys.
--- In order: words after stores; one key more, in the nodes and in the entries; all keys; fresh tables.
+-- What the words of the tables are after one key more, after all keys, and fresh.
+-- In order: one store; a new node; one key more, in the nodes and in the entries; all keys; fresh tables.
 -- Not here: where nodes lead (Chain). Assumes nothing.
-use Prim.Native.Nat.{ℕ, suc, _+_, _*_, _≤_, _<_}
+use Prim.Native.Nat.{ℕ, _+_, _*_, _≤_, _<_}
 use mathlib.Core.Path.{_≡_, refl, _∙_}
-use mathlib.Core.List.{List, [], _∷_, _++_, append-assoc}
+use mathlib.Core.Logic.{_≢_}
+use mathlib.Core.List.{List, [], _∷_}
 use native.Mathlib.Omega.{arith}
-use lib.ListN.{length, take, drop, getD, set, length-set, length-replicate, List·getD-append}
-use lib.Seq.{sets, sets-eq, length-sets, length-take-le, getD-append-add, getD-set-same, getD-set-other}
+use lib.ListN.{length, getD, replicate, length-replicate, getD-replicate}
+use lib.Seq.{getD-set-other}
 use borrow.Author.Tests.{ne-eqb}
-use Rattle.text.specs.Text.{largest}
-use Rattle.loading.specs.Tables.{Tables, tables, nodeOf, entryOf, predOf, linked, zeros}
-use Rattle.loading.specs.Tables.{filedNodes, filedEntries, filedAll, freshNodes, freshEntries}
+use Rattle.table.specs.Table.{wordOf, storeOf, clearOf}
+use Rattle.table.proofs.Laws.{word-stored, store-length}
+use Rattle.bundle.specs.Bundle.{wordAt, layOf, finishOf}
+use Rattle.bundle.proofs.Promise.{lay-length, lay-else, lay-target}
+use Rattle.bundle.proofs.Promise.{finish-length, finish-else, finish-target, finish-final}
+use Rattle.nodes.specs.Nodes.{nodeAt, putNode, keyAt, valueAt, nextAt, lockAt, removedAt, newestAt, newNode}
+use Rattle.nodes.specs.Nodes.{namedNode, clearNode}
+use Rattle.terms.specs.Terms.{tailKey}
+use Rattle.terms.specs.declared.Counters.{Counters}
+use Rattle.steps.specs.Steps.{Tables, tables}
+use Rattle.register.specs.Register.{freshNodes, freshEntries}
+use Rattle.loading.specs.Filing.{used, predOf, preparedNodes, filedNodes, filedEntries, filed, filedAll}
 use Rattle.loading.proofs.Words.{pred-below}
-use Rattle.loading.specs.Members.{nodeWord, entryWord}
 
 abbrev pub nodesIn : Tables → List ℕ
 nodesIn (tables ns es) = ns
@@ -20,135 +29,230 @@ nodesIn (tables ns es) = ns
 abbrev pub entriesIn : Tables → List ℕ
 entriesIn (tables ns es) = es
 
--- ---- words after stores
+-- ---- one store: a word at another place stays
+pub put-off : (ns : List ℕ) (n k v j l : ℕ) → j * 6 + l ≢ n * 6 + k → nodeAt (putNode ns n k v) j l ≡ nodeAt ns j l
+unfolding wordOf storeOf
+put-off ns n k v j l apart = getD-set-other ns (n * 6 + k) (j * 6 + l) v 0 apart
 
-pub below-sets : (x l : List ℕ) (p w : ℕ) → w < p → getD (sets l p x) w 0 ≡ getD l w 0
-below-sets [] l p w h = refl
-below-sets (a ∷ x) l p w h =
-    below-sets x (set l p a) (suc p) w (omega arith) ∙ getD-set-other l p w a 0 (λ e. omega arith)
+-- ---- a new node
+module _ (ns : List ℕ) (n key value next : ℕ) where
+  pub new-length : length (newNode ns n key value next) ≡ length ns
+  unfolding namedNode clearNode
+  new-length = simp store-length
 
-at-seam : (a b : List ℕ) (p j : ℕ) → length a ≡ p → getD (a ++ b) (p + j) 0 ≡ getD b j 0
-at-seam a b p j e = rw (← e) (getD-append-add a b j 0)
+  pub new-off : (j l : ℕ) → j * 6 + l < n * 6 → nodeAt (newNode ns n key value next) j l ≡ nodeAt ns j l
+  unfolding namedNode clearNode
+  new-off j l h =
+      put-off _ n 5 0 j l (omega arith) ∙ put-off _ n 4 0 j l (omega arith) ∙ put-off _ n 3 0 j l (omega arith) ∙
+      put-off _ n 2 next j l (omega arith) ∙ put-off _ n 1 value j l (omega arith) ∙
+      put-off ns n 0 key j l (omega arith)
 
-pub at-sets : (x l : List ℕ) (p j : ℕ) → p + length x ≤ length l → j < length x →
-    getD (sets l p x) (p + j) 0 ≡ getD x j 0
-at-sets x l p j room h =
-    let w : p ≤ length l = omega arith in
-    rw (sets-eq x l p room, append-assoc, at-seam (take p l) (x ++ drop (p + length x) l) p j (length-take-le p l w))
-    (List·getD-append x (drop (p + length x) l) 0 j h)
+  module _ (room : n * 6 + 5 < length ns) where
+    new-named : (l : ℕ) → l < 3 → nodeAt (newNode ns n key value next) n l ≡ nodeAt (namedNode ns n key value next) n l
+    unfolding clearNode
+    new-named l h =
+        put-off _ n 5 0 n l (omega arith) ∙ put-off _ n 4 0 n l (omega arith) ∙ put-off _ n 3 0 n l (omega arith)
 
--- ---- one key more
+    pub new-key : keyAt (newNode ns n key value next) n ≡ key
+    unfolding namedNode
+    new-key =
+        new-named 0 (omega arith) ∙ put-off _ n 2 next n 0 (omega arith) ∙ put-off _ n 1 value n 0 (omega arith) ∙
+        word-stored 6 ns n 0 key (omega arith)
 
+    pub new-value : valueAt (newNode ns n key value next) n ≡ value
+    unfolding namedNode
+    new-value =
+        new-named 1 (omega arith) ∙ put-off _ n 2 next n 1 (omega arith) ∙
+        word-stored 6 _ n 1 value (simp store-length (omega arith))
+
+    pub new-next : nextAt (newNode ns n key value next) n ≡ next
+    unfolding namedNode
+    new-next = new-named 2 (omega arith) ∙ word-stored 6 _ n 2 next (simp store-length (omega arith))
+
+    pub new-lock : lockAt (newNode ns n key value next) n ≡ 0
+    unfolding namedNode clearNode
+    new-lock =
+        put-off _ n 5 0 n 3 (omega arith) ∙ put-off _ n 4 0 n 3 (omega arith) ∙
+        word-stored 6 _ n 3 0 (simp store-length (omega arith))
+
+    pub new-removed : removedAt (newNode ns n key value next) n ≡ 0
+    unfolding namedNode clearNode
+    new-removed = put-off _ n 5 0 n 4 (omega arith) ∙ word-stored 6 _ n 4 0 (simp store-length (omega arith))
+
+    pub new-newest : newestAt (newNode ns n key value next) n ≡ 0
+    unfolding namedNode clearNode
+    new-newest = word-stored 6 _ n 5 0 (simp store-length (omega arith))
+
+-- ---- one key more, in the nodes: pred stands before the new node
+module _ (c : Counters) (p k v : ℕ) (ns : List ℕ) where
+  pub filed-length : length (filedNodes c p k v ns) ≡ length ns
+  unfolding filedNodes preparedNodes namedNode clearNode
+  filed-length = simp store-length
+
+  module _ (before : p < c .nodes) where
+    -- nodes before the new one stay, but for pred's plain next, lock and newest entry
+    pub filed-off : (j l : ℕ) → j * 6 + l < c .nodes * 6 → j * 6 + l ≢ p * 6 + 2 → j * 6 + l ≢ p * 6 + 3 →
+        j * 6 + l ≢ p * 6 + 5 → nodeAt (filedNodes c p k v ns) j l ≡ nodeAt ns j l
+    unfolding filedNodes preparedNodes
+    filed-off j l below next lock newest =
+        put-off _ p 3 0 j l lock ∙ put-off _ p 2 (c .nodes) j l next ∙
+        put-off _ (c .nodes) 5 (c .entries + 2) j l (omega arith) ∙ put-off _ p 5 (c .entries + 1) j l newest ∙
+        new-off ns (c .nodes) k v 1 j l below
+
+    module _ (room : c .nodes * 6 + 5 < length ns) where
+      pub filed-next : nextAt (filedNodes c p k v ns) p ≡ c .nodes
+      unfolding filedNodes preparedNodes namedNode clearNode
+      filed-next = put-off _ p 3 0 p 2 (omega arith) ∙ word-stored 6 _ p 2 (c .nodes) (simp store-length (omega arith))
+
+      pub filed-newest : newestAt (filedNodes c p k v ns) p ≡ c .entries + 1
+      unfolding filedNodes preparedNodes namedNode clearNode
+      filed-newest =
+          put-off _ p 3 0 p 5 (omega arith) ∙ put-off _ p 2 (c .nodes) p 5 (omega arith) ∙
+          put-off _ (c .nodes) 5 (c .entries + 2) p 5 (omega arith) ∙
+          word-stored 6 _ p 5 (c .entries + 1) (simp store-length (omega arith))
+
+      -- the new node
+      pub filed-own-newest : newestAt (filedNodes c p k v ns) (c .nodes) ≡ c .entries + 2
+      unfolding filedNodes preparedNodes namedNode clearNode
+      filed-own-newest =
+          put-off _ p 3 0 (c .nodes) 5 (omega arith) ∙ put-off _ p 2 (c .nodes) (c .nodes) 5 (omega arith) ∙
+          word-stored 6 _ (c .nodes) 5 (c .entries + 2) (simp store-length (omega arith))
+
+      filed-own : (l : ℕ) → l < 5 →
+          nodeAt (filedNodes c p k v ns) (c .nodes) l ≡ nodeAt (newNode ns (c .nodes) k v 1) (c .nodes) l
+      unfolding filedNodes preparedNodes
+      filed-own l h =
+          put-off _ p 3 0 (c .nodes) l (omega arith) ∙ put-off _ p 2 (c .nodes) (c .nodes) l (omega arith) ∙
+          put-off _ (c .nodes) 5 (c .entries + 2) (c .nodes) l (omega arith) ∙
+          put-off _ p 5 (c .entries + 1) (c .nodes) l (omega arith)
+
+      pub filed-own-key : keyAt (filedNodes c p k v ns) (c .nodes) ≡ k
+      filed-own-key = filed-own 0 (omega arith) ∙ new-key ns (c .nodes) k v 1 room
+
+      pub filed-own-value : valueAt (filedNodes c p k v ns) (c .nodes) ≡ v
+      filed-own-value = filed-own 1 (omega arith) ∙ new-value ns (c .nodes) k v 1 room
+
+      pub filed-own-next : nextAt (filedNodes c p k v ns) (c .nodes) ≡ 1
+      filed-own-next = filed-own 2 (omega arith) ∙ new-next ns (c .nodes) k v 1 room
+
+      pub filed-own-lock : lockAt (filedNodes c p k v ns) (c .nodes) ≡ 0
+      filed-own-lock = filed-own 3 (omega arith) ∙ new-lock ns (c .nodes) k v 1 room
+
+      pub filed-own-removed : removedAt (filedNodes c p k v ns) (c .nodes) ≡ 0
+      filed-own-removed = filed-own 4 (omega arith) ∙ new-removed ns (c .nodes) k v 1 room
+
+-- ---- and in the entries
+module _ (c : Counters) (older : ℕ) (es : List ℕ) where
+  pub entries-length : length (filedEntries c older es) ≡ length es
+  unfolding filedEntries
+  entries-length = simp (finish-length, lay-length)
+
+  pub entries-below : (d l : ℕ) → d < c .entries → l < 4 → wordAt (filedEntries c older es) d l ≡ wordAt es d l
+  unfolding filedEntries
+  entries-below d l below l<4 =
+      finish-else _ (c .entries + 1) (c .stamp + 1) d l l<4 (omega arith) ∙
+      finish-else _ (c .entries) (c .stamp + 1) d l l<4 (omega arith) ∙
+      lay-else _ (c .entries + 1) 1 (c .stamp) 0 d l l<4 (omega arith) ∙
+      lay-else es (c .entries) (c .nodes) (c .stamp) older d l l<4 (omega arith)
+
+  module _ (room : (c .entries + 1) * 4 + 3 < length es) where
+    -- pred's new entry leads to the new node
+    pub entry-before : wordAt (filedEntries c older es) (c .entries) 0 ≡ c .nodes
+    unfolding filedEntries
+    entry-before =
+        finish-else _ (c .entries + 1) (c .stamp + 1) (c .entries) 0 (omega arith) (omega arith) ∙
+        finish-target _ (c .entries) (simp lay-length (omega arith)) (c .stamp + 1) ∙
+        lay-else _ (c .entries + 1) 1 (c .stamp) 0 (c .entries) 0 (omega arith) (omega arith) ∙
+        lay-target es (c .entries) (omega arith) (c .nodes) (c .stamp) older
+
+    -- and the new node's own to the tail; it is final
+    pub entry-own : wordAt (filedEntries c older es) (c .entries + 1) 0 ≡ 1
+    unfolding filedEntries
+    entry-own =
+        finish-target _ (c .entries + 1) (simp (finish-length, lay-length) (omega arith)) (c .stamp + 1) ∙
+        finish-else _ (c .entries) (c .stamp + 1) (c .entries + 1) 0 (omega arith) (omega arith) ∙
+        lay-target _ (c .entries + 1) (simp lay-length (omega arith)) 1 (c .stamp) 0
+
+    pub entry-own-final : wordAt (filedEntries c older es) (c .entries + 1) 2 ≡ 0
+    unfolding filedEntries
+    entry-own-final =
+        finish-final _ (c .entries + 1) (simp (finish-length, lay-length) (omega arith)) (c .stamp + 1)
+
+-- ---- all keys: what lies before stays
 pub pred-next : (i : ℕ) → predOf (i + 1) ≡ i + 2
 unfolding predOf
 pred-next i = rw (ne-eqb (i + 1) 0 (λ e. omega arith)) (omega arith)
 
-module _ (i k v : ℕ) (ns : List ℕ) where
-  length-linked : length (linked i ns) ≡ length ns
-  unfolding linked
-  length-linked = simp length-set
+-- the tables with one key more
+abbrev pub nodesWith : ℕ → ℕ → ℕ → List ℕ → List ℕ
+nodesWith i k v ns = filedNodes (used i) (predOf i) k v ns
 
-  pub length-filed : length (filedNodes i k v ns) ≡ length ns
-  unfolding filedNodes linked
-  length-filed = simp (length-sets, length-set)
+abbrev pub entriesWith : ℕ → List ℕ → List ℕ → List ℕ
+entriesWith i ns es = filedEntries (used i) (newestAt ns (predOf i)) es
 
-  -- what lies before pred's plain next stays
-  filed-below : (w : ℕ) → w < predOf i * 6 + 2 → getD (filedNodes i k v ns) w 0 ≡ getD ns w 0
-  unfolding filedNodes linked
-  filed-below w h =
-      below-sets (nodeOf k v 1 (2 * i + 3)) (linked i ns) ((i + 2) * 6) w (omega (arith, pred-below i)) ∙
-      getD-set-other (set ns (predOf i * 6 + 2) (i + 2)) (predOf i * 6 + 5) w (2 * i + 2) 0 (λ e. omega arith) ∙
-      getD-set-other ns (predOf i * 6 + 2) w (i + 2) 0 (λ e. omega arith)
-
-  module _ (room : (i + 3) * 6 ≤ length ns) where
-    pub filed-next : nodeWord 2 (filedNodes i k v ns) (predOf i) ≡ i + 2
-    unfolding filedNodes linked
-    filed-next =
-        below-sets (nodeOf k v 1 (2 * i + 3)) (linked i ns) ((i + 2) * 6) (predOf i * 6 + 2)
-        (omega (arith, pred-below i)) ∙
-        getD-set-other (set ns (predOf i * 6 + 2) (i + 2)) (predOf i * 6 + 5) (predOf i * 6 + 2) (2 * i + 2) 0
-        (λ e. omega arith) ∙
-        getD-set-same ns (predOf i * 6 + 2) (i + 2) 0 (omega (arith, pred-below i))
-
-    pub filed-newest : nodeWord 5 (filedNodes i k v ns) (predOf i) ≡ 2 * i + 2
-    unfolding filedNodes linked
-    filed-newest =
-        below-sets (nodeOf k v 1 (2 * i + 3)) (linked i ns) ((i + 2) * 6) (predOf i * 6 + 5)
-        (omega (arith, pred-below i)) ∙
-        getD-set-same (set ns (predOf i * 6 + 2) (i + 2)) (predOf i * 6 + 5) (2 * i + 2) 0
-        (omega (arith, pred-below i, length-set ns (predOf i * 6 + 2) (i + 2)))
-
-    pub filed-own : (j : ℕ) → j < 6 →
-        nodeWord j (filedNodes i k v ns) (i + 2) ≡ getD (nodeOf k v 1 (2 * i + 3)) j 0
-    unfolding filedNodes
-    filed-own j h =
-        at-sets (nodeOf k v 1 (2 * i + 3)) (linked i ns) ((i + 2) * 6) j (omega (arith, length-linked)) h
-
-module _ (i : ℕ) (es : List ℕ) where
-  pub length-entries : length (filedEntries i es) ≡ length es
-  unfolding filedEntries
-  length-entries = simp length-sets
-
-  entries-below : (w : ℕ) → w < (2 * i + 1) * 4 → getD (filedEntries i es) w 0 ≡ getD es w 0
-  unfolding filedEntries
-  entries-below w h =
-      below-sets (entryOf 1 (i + 1) 0) (sets es ((2 * i + 1) * 4) (entryOf (i + 2) (i + 1) (2 * i + 1)))
-      ((2 * i + 2) * 4) w (omega arith) ∙
-      below-sets (entryOf (i + 2) (i + 1) (2 * i + 1)) es ((2 * i + 1) * 4) w (omega arith)
-
-  module _ (room : (2 * i + 3) * 4 ≤ length es) where
-    -- pred's new entry leads to the new node
-    pub entry-before : entryWord 0 (filedEntries i es) (2 * i + 1) ≡ i + 2
-    unfolding filedEntries
-    entry-before =
-        below-sets (entryOf 1 (i + 1) 0) (sets es ((2 * i + 1) * 4) (entryOf (i + 2) (i + 1) (2 * i + 1)))
-        ((2 * i + 2) * 4) ((2 * i + 1) * 4 + 0) (omega arith) ∙
-        at-sets (entryOf (i + 2) (i + 1) (2 * i + 1)) es ((2 * i + 1) * 4) 0 (omega arith) (omega arith)
-
-    -- and the new node's own to the tail
-    pub entry-own : entryWord 0 (filedEntries i es) (2 * i + 2) ≡ 1
-    unfolding filedEntries
-    entry-own =
-        at-sets (entryOf 1 (i + 1) 0) (sets es ((2 * i + 1) * 4) (entryOf (i + 2) (i + 1) (2 * i + 1)))
-        ((2 * i + 2) * 4) 0
-        (omega (arith, length-sets es ((2 * i + 1) * 4) (entryOf (i + 2) (i + 1) (2 * i + 1)))) (omega arith)
-
--- ---- all keys: what lies before stays
-
-pub all-nodes-below : (ks vs ns es : List ℕ) (i w : ℕ) → w < predOf i * 6 + 2 →
-    getD (nodesIn (filedAll i ks vs (tables ns es))) w 0 ≡ getD ns w 0
+pub all-nodes-below : (ks vs ns es : List ℕ) (i j l : ℕ) → j * 6 + l < predOf i * 6 + 2 →
+    nodeAt (nodesIn (filedAll i ks vs (tables ns es))) j l ≡ nodeAt ns j l
 unfolding filedAll
-all-nodes-below [] vs ns es i w h = refl
-all-nodes-below (k ∷ ks) [] ns es i w h = refl
-all-nodes-below (k ∷ ks) (v ∷ vs) ns es i w h =
-    all-nodes-below ks vs (filedNodes i k v ns) (filedEntries i es) (i + 1) w
-    (rw pred-next (omega (arith, pred-below i))) ∙ filed-below i k v ns w h
+all-nodes-below [] vs ns es i j l h = refl
+all-nodes-below (k ∷ ks) [] ns es i j l h = refl
+all-nodes-below (k ∷ ks) (v ∷ vs) ns es i j l h =
+    let low = pred-below i in
+    all-nodes-below ks vs (nodesWith i k v ns) (entriesWith i ns es) (i + 1) j l (rw pred-next (omega arith)) ∙
+    filed-off (used i) (predOf i) k v ns (omega arith) j l (omega arith) (omega arith) (omega arith) (omega arith)
 
-pub all-entries-below : (ks vs ns es : List ℕ) (i w : ℕ) → w < (2 * i + 1) * 4 →
-    getD (entriesIn (filedAll i ks vs (tables ns es))) w 0 ≡ getD es w 0
+pub all-entries-below : (ks vs ns es : List ℕ) (i d l : ℕ) → d < 2 * i + 1 → l < 4 →
+    wordAt (entriesIn (filedAll i ks vs (tables ns es))) d l ≡ wordAt es d l
 unfolding filedAll
-all-entries-below [] vs ns es i w h = refl
-all-entries-below (k ∷ ks) [] ns es i w h = refl
-all-entries-below (k ∷ ks) (v ∷ vs) ns es i w h =
-    all-entries-below ks vs (filedNodes i k v ns) (filedEntries i es) (i + 1) w (omega arith) ∙
-    entries-below i es w h
+all-entries-below [] vs ns es i d l h l<4 = refl
+all-entries-below (k ∷ ks) [] ns es i d l h l<4 = refl
+all-entries-below (k ∷ ks) (v ∷ vs) ns es i d l h l<4 =
+    all-entries-below ks vs (nodesWith i k v ns) (entriesWith i ns es) (i + 1) d l (omega arith) l<4 ∙
+    entries-below (used i) (newestAt ns (predOf i)) es d l h l<4
 
 -- ---- fresh tables
-
-pub length-zeros : (n : ℕ) → length (zeros n) ≡ n
-unfolding zeros
-length-zeros n = length-replicate n 0
-
-pub length-fresh-nodes : (nodes : ℕ) → length (freshNodes nodes) ≡ 6 * nodes
+pub fresh-nodes-length : (ns : List ℕ) → length (freshNodes ns) ≡ length ns
 unfolding freshNodes
-length-fresh-nodes nodes = simp length-sets (length-zeros (6 * nodes))
+fresh-nodes-length ns = simp (store-length, length-replicate)
 
-pub length-fresh-entries : (entries : ℕ) → length (freshEntries entries) ≡ 4 * entries
+pub fresh-entries-length : (es : List ℕ) → length (freshEntries es) ≡ length es
 unfolding freshEntries
-length-fresh-entries entries = simp length-sets (length-zeros (4 * entries))
+fresh-entries-length es = simp (finish-length, lay-length, length-replicate)
 
-pub fresh-head : (nodes j : ℕ) → 2 ≤ nodes → j < 6 → nodeWord j (freshNodes nodes) 0 ≡ getD (nodeOf 0 0 1 1) j 0
-unfolding freshNodes
-fresh-head nodes j h k =
-    below-sets (nodeOf largest 0 0 0) (sets (zeros (6 * nodes)) 0 (nodeOf 0 0 1 1)) 6 (0 + j) (omega arith) ∙
-    at-sets (nodeOf 0 0 1 1) (zeros (6 * nodes)) 0 j (omega (arith, length-zeros (6 * nodes))) k
+module _ (ns : List ℕ) (room : 12 ≤ length ns) where
+  cleared : (j l : ℕ) → j * 6 + l < 12 → nodeAt (clearOf ns) j l ≡ 0
+  unfolding wordOf
+  cleared j l h = getD-replicate (length ns) (j * 6 + l) 0 0 (omega arith)
+
+  pub fresh-next : nextAt (freshNodes ns) 0 ≡ 1
+  unfolding freshNodes
+  fresh-next =
+      put-off _ 1 0 tailKey 0 2 (omega arith) ∙ put-off _ 0 5 1 0 2 (omega arith) ∙
+      word-stored 6 _ 0 2 1 (simp length-replicate (omega arith))
+
+  pub fresh-newest : newestAt (freshNodes ns) 0 ≡ 1
+  unfolding freshNodes
+  fresh-newest =
+      put-off _ 1 0 tailKey 0 5 (omega arith) ∙
+      word-stored 6 _ 0 5 1 (simp (store-length, length-replicate) (omega arith))
+
+  pub fresh-tail : keyAt (freshNodes ns) 1 ≡ tailKey
+  unfolding freshNodes
+  fresh-tail = word-stored 6 _ 1 0 tailKey (simp (store-length, length-replicate) (omega arith))
+
+  -- the head is free and not removed
+  pub fresh-marks : (l : ℕ) → 2 < l → l < 5 → nodeAt (freshNodes ns) 0 l ≡ 0
+  unfolding freshNodes
+  fresh-marks l low high =
+      put-off _ 1 0 tailKey 0 l (omega arith) ∙ put-off _ 0 5 1 0 l (omega arith) ∙
+      put-off _ 0 2 1 0 l (omega arith) ∙ cleared 0 l (omega arith)
+
+module _ (es : List ℕ) (room : 4 ≤ length es) where
+  pub fresh-leads-to : wordAt (freshEntries es) 0 0 ≡ 1
+  unfolding freshEntries
+  fresh-leads-to =
+      finish-target _ 0 (simp (lay-length, length-replicate) (omega arith)) 0 ∙
+      lay-target _ 0 (simp length-replicate (omega arith)) 1 0 0
+
+  pub fresh-final : wordAt (freshEntries es) 0 2 ≡ 0
+  unfolding freshEntries
+  fresh-final = finish-final _ 0 (simp (lay-length, length-replicate) (omega arith)) 0

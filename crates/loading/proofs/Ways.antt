@@ -1,5 +1,5 @@
 -- Each way out of `load`, over plain values; and what reading hands to it.
--- In order: the keys and values that reading gave; a register; refusals.
+-- In order: the keys and values that reading gave; a register, or a refusal of the listing; the lengths first.
 -- Not here: the tables' words (Words). Assumes nothing.
 use Prim.Native.Nat.{ℕ, _+_, _*_, _≤_, _<_}
 use mathlib.Core.Path.{_≡_, sym, _∙_}
@@ -7,7 +7,12 @@ use mathlib.Core.List.{List}
 use native.Mathlib.Omega.{arith}
 use lib.ListN.{length, take}
 use lib.Seq.{sets, sets-eq, take-append-seam, length-sets, length-take-le}
-use borrow.Author.Tests.{eq-eqb, ne-eqb}
+use mathlib.Core.Bool.{Bool, true, false}
+use Rattle.terms.specs.Terms.{small}
+use Rattle.terms.specs.declared.Size.{Size}
+use Rattle.terms.specs.declared.Counters.{Counters}
+use Rattle.steps.specs.Steps.{Tables, tables}
+use Rattle.register.specs.Register.{fits}
 use Rattle.text.specs.Text.{linesOf}
 use Rattle.listing.specs.Listing.{keyName, valueName}
 use Rattle.scanning.specs.Reading.{numbersIn, readOf}
@@ -15,7 +20,7 @@ use Rattle.scanning.specs.Reading.{done as read-done}
 use Rattle.scanning.specs.declared.Reading.{Reading}
 use Rattle.scanning.proofs.OneWay.{Handed, handed}
 use Rattle.scanning.proofs.Refusals.{read-checks}
-use Rattle.loading.specs.Tables.{Tables, tables, freshTables, filedAll}
+use Rattle.loading.specs.Filing.{used, filedAll, freshTables}
 use Rattle.loading.specs.Loading.{done, loadedTables, loadOf}
 use Rattle.loading.specs.declared.Loaded.{Loaded}
 
@@ -66,17 +71,11 @@ module _ (most : ℕ) (s ko vo ks vs : List ℕ) (r : Reading) (told : read-done
   pub same-count : length ko ≡ most → length vo ≡ most → length (take count ks) ≡ length (take count vs)
   same-count e f = sym (keys-count e) ∙ values-count f
 
-  pub few-count : length ko ≡ most → length (take count ks) ≤ most
-  few-count e = let few = count-room in omega (arith, keys-count e)
+  pub count-small : most ≤ 65535 → count < 65536
+  count-small h = let few = count-room in omega arith
 
-  pub nodes-fit : most ≤ 65536 → 2 + count < 4294967296
-  nodes-fit h = let few = count-room in omega arith
-
-  pub twice-fits : most ≤ 65536 → 2 * count < 4294967296
-  twice-fits h = let few = count-room in omega arith
-
-  pub entries-fit : most ≤ 65536 → 1 + 2 * count < 4294967296
-  entries-fit h = let few = count-room in omega arith
+  pub few-count : length ko ≡ most → most ≤ 65535 → length (take count ks) < 65536
+  few-count e h = let few = count-room in omega (arith, keys-count e)
 
   keys-taken : length ko ≡ most → take count ks ≡ numbersIn keyName (linesOf s)
   keys-taken e =
@@ -88,51 +87,54 @@ module _ (most : ℕ) (s ko vo ks vs : List ℕ) (r : Reading) (told : read-done
       let h = all-handed in
       rw values-stored (taken vo (numbersIn valueName (linesOf s)) count (h .values) (omega arith))
 
-pub ruleset handing = (keys-room, values-room, keys-count, values-count, same-count, few-count)
+-- document 01's number of keys
+pub keys-few : small .keys ≤ 65535
+keys-few = omega arith
 
-pub ruleset fitting = (nodes-fit, twice-fits, entries-fit)
+pub ruleset handing = (
+  keys-room,
+  values-room,
+  keys-count,
+  values-count,
+  same-count,
+  few-count,
+  count-small,
+  keys-few,
+)
 
--- ---- a register
+-- ---- a register, or a refusal of the listing
 
-module _ (nodes entries most : ℕ) (s ns es : List ℕ) (en : length ns ≡ 6 * nodes) (ee : length es ≡ 4 * entries) where
-  pub load-whole : (ko vo ks vs : List ℕ) (r : Reading) → read-done ks vs r ≡ readOf most s ko vo →
-      (stamp count : ℕ) → r ≡ Reading.Whole stamp count → length ko ≡ most → length vo ≡ most →
-      (t : Tables) → t ≡ filedAll 0 (take count ks) (take count vs) (freshTables nodes entries) →
-      done t (Loaded.Register (2 + count) (1 + 2 * count) count) ≡ loadOf nodes entries most s ns es
+module _ (z : Size) (s ns es : List ℕ) (fit : fits z ns es ≡ true) (ko vo ks vs : List ℕ) (r : Reading)
+    (told : read-done ks vs r ≡ readOf (z .keys) s ko vo) where
+  pub load-whole : (stamp count : ℕ) → r ≡ Reading.Whole stamp count → length ko ≡ z .keys → length vo ≡ z .keys →
+      (c : Counters) → c ≡ used count → (t : Tables) →
+      t ≡ filedAll 0 (take count ks) (take count vs) (freshTables ns es) →
+      done t (Loaded.Register c) ≡ loadOf z s ns es
   unfolding loadOf loadedTables
-  load-whole ko vo ks vs r told stamp count whole ek ev t e =
-      let answer = sym (read-checks most s ko vo ks vs r told) ∙ whole in
-      rw (eq-eqb (length ns) (6 * nodes) en, eq-eqb (length es) (4 * entries) ee, answer, e)
-      (rw (keys-taken most s ko vo ks vs r told stamp count whole ek)
-      (rw (values-taken most s ko vo ks vs r told stamp count whole ev)))
+  load-whole stamp count whole ek ev c used-up t e =
+      let answer = sym (read-checks (z .keys) s ko vo ks vs r told) ∙ whole in
+      rw (fit, answer, e, used-up)
+      (rw (keys-taken (z .keys) s ko vo ks vs r told stamp count whole ek)
+      (rw (values-taken (z .keys) s ko vo ks vs r told stamp count whole ev)))
 
-  -- ---- refusals
+  pub load-bad : (p : ℕ) → r ≡ Reading.BadListing p → done (tables ns es) (Loaded.BadListing p) ≡ loadOf z s ns es
+  unfolding loadOf
+  load-bad p e = let answer = sym (read-checks (z .keys) s ko vo ks vs r told) ∙ e in rw (fit, answer)
 
-  module _ (ko vo ks vs : List ℕ) (r : Reading) (told : read-done ks vs r ≡ readOf most s ko vo) where
-    pub load-bad : (p : ℕ) → r ≡ Reading.BadListing p →
-        done (tables ns es) (Loaded.BadListing p) ≡ loadOf nodes entries most s ns es
-    unfolding loadOf
-    load-bad p e =
-        let answer = sym (read-checks most s ko vo ks vs r told) ∙ e in
-        rw (eq-eqb (length ns) (6 * nodes) en, eq-eqb (length es) (4 * entries) ee, answer)
-
-    pub load-many : r ≡ Reading.TooMany → done (tables ns es) Loaded.TooMany ≡ loadOf nodes entries most s ns es
-    unfolding loadOf
-    load-many e =
-        let answer = sym (read-checks most s ko vo ks vs r told) ∙ e in
-        rw (eq-eqb (length ns) (6 * nodes) en, eq-eqb (length es) (4 * entries) ee, answer)
+  pub load-many : r ≡ Reading.TooMany → done (tables ns es) Loaded.TooMany ≡ loadOf z s ns es
+  unfolding loadOf
+  load-many e = let answer = sym (read-checks (z .keys) s ko vo ks vs r told) ∙ e in rw (fit, answer)
 
 pub ruleset loads = (load-whole, load-bad, load-many)
 
-module _ (nodes entries most : ℕ) (s ns es : List ℕ) where
-  pub load-nodes : (length ns ≡ 6 * nodes → ⊥) →
-      done (tables ns es) Loaded.BadTable ≡ loadOf nodes entries most s ns es
-  unfolding loadOf
-  load-nodes h = rw (ne-eqb (length ns) (6 * nodes) h)
+-- ---- the tables' lengths first
 
-  pub load-entries : length ns ≡ 6 * nodes → (length es ≡ 4 * entries → ⊥) →
-      done (tables ns es) Loaded.BadTable ≡ loadOf nodes entries most s ns es
-  unfolding loadOf
-  load-entries e h = rw (eq-eqb (length ns) (6 * nodes) e, ne-eqb (length es) (4 * entries) h)
+module _ (z y : Size) (s ns es : List ℕ) (b : Bool) (size : y ≡ z) (test : b ≡ fits y ns es) where
+  pub right-tables : b ≡ true → fits z ns es ≡ true
+  right-tables h = rw (← size, ← test, h)
 
-pub ruleset bad-tables = (load-nodes, load-entries)
+  pub bad-tables : b ≡ false → done (tables ns es) Loaded.BadTable ≡ loadOf z s ns es
+  unfolding loadOf
+  bad-tables h = rw (← size, ← test, h)
+
+pub ruleset tables-first = (right-tables, bad-tables)

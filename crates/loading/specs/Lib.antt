@@ -1,4 +1,4 @@
 -- The definitions that the contracts cite.
-pub mod Tables
+pub mod Filing
 pub mod Loading
 pub mod Members

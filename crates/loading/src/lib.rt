@@ -1,73 +1,44 @@
 // Reading a listing into lent register tables (document 01).
-// In order: the answer; words into a table; fresh tables; one key more; all keys; loading.
-// Not here: the register's steps (the register's). The input is checked and its numbers are gathered before the
-// first word of a table changes, so that a refusal changes nothing.
-use scanning::Reading;
+// In order: the answer; one key more; all keys; loading.
+// Not here: fresh tables (crate register), the steps of an insert (crate steps). The input is checked and its numbers
+// are gathered before the first word of a table changes, so that a refusal changes nothing. Assumes nothing.
 ghost use mathlib.Core.Path.{_≡_};
-ghost use Prim.Native.Nat.{_+_, _*_, _≤_, _<_};
+ghost use mathlib.Core.Bool.{true};
+ghost use Prim.Native.Nat.{_+_, _≤_, _<_};
 ghost use lib.ListN.{length};
-ghost use lib.Seq.{sets};
-ghost use Rattle.listing.specs.Listing.{keyRoom};
-ghost use Rattle.loading.specs.Tables.{tables, zeros, freshNodes, freshEntries, freshTables};
-ghost use Rattle.loading.specs.Tables.{predOf, linked, filedNodes, filedEntries, filedAll};
+ghost use Rattle.terms.specs.Terms.{small};
+ghost use Rattle.steps.specs.Steps.{tables};
+ghost use Rattle.register.specs.Register.{fits};
+ghost use Rattle.loading.specs.Filing.{used, predOf, preparedNodes, filedNodes};
+ghost use Rattle.loading.specs.Filing.{filedEntries, filed, filedAll, freshTables};
 ghost use Rattle.loading.specs.Loading.{done, loadOf};
+use nodes::NEWEST;
+use nodes::NEXT;
+use scanning::Reading;
+use terms::Counters;
+use terms::Size;
 
 // The counters of the register that was loaded, or a refusal: 7, 9 with its offset, or 10.
 pub enum Loaded {
-    Register {
-        nodes: u32,
-        entries: u32,
-        stamp: u32,
-    },
+    Register(Counters),
     BadTable,
     BadListing(usize),
     TooMany,
 }
 
-// Stores the words from `place` on.
-fn put_words(table: &mut [u32], place: usize, words: &[u32])
-    requires { ⌜ place + length (now words) ≤ length (now table) ⌝ }
-    ensures { λ _. ⌜ now (table .exit) ≡ sets (now (table .entry)) place (now (words .entry)) ⌝ }
+// The counters where i keys are filed.
+fn count_used(i: u32) -> Counters
+    requires { ⌜ i < 65536 ⌝ }
+    ensures { λ r. ⌜ r ≡ used i ⌝ }
 {
-    let mut i: usize = 0;
-    while i < words.len() {
-        table[place + i] = words[i];
-        i += 1;
+    Counters {
+        nodes: i + 2,
+        entries: 2 * i + 1,
+        stamp: i,
     }
 }
 
-// Every word is 0.
-fn clear(table: &mut [u32])
-    ensures { λ _. ⌜ now (table .exit) ≡ zeros (length (now (table .entry))) ⌝ }
-{
-    let mut i: usize = 0;
-    while i < table.len() {
-        table[i] = 0;
-        i += 1;
-    }
-}
-
-fn fresh_nodes(nodes: &mut [u32])
-    requires { ⌜ length (now nodes) ≡ 3072 ⌝ }
-    ensures { λ _. ⌜ now (nodes .exit) ≡ freshNodes 512 ⌝ }
-{
-    let head = [0u32, 0, 1, 0, 0, 1];
-    let tail = [4294967295u32, 0, 0, 0, 0, 0];
-    clear(nodes);
-    put_words(nodes, 0, &head);
-    put_words(nodes, 6, &tail);
-}
-
-fn fresh_entries(entries: &mut [u32])
-    requires { ⌜ length (now entries) ≡ 8192 ⌝ }
-    ensures { λ _. ⌜ now (entries .exit) ≡ freshEntries 2048 ⌝ }
-{
-    let first = [1u32, 0, 0, 0];
-    clear(entries);
-    put_words(entries, 0, &first);
-}
-
-// The node of the last key before key i, or the head.
+// The node of the last of i keys, or the head.
 fn pred(i: u32) -> u32
     requires { ⌜ i < 65536 ⌝ }
     ensures { λ r. ⌜ r ≡ predOf i ⌝ }
@@ -78,47 +49,61 @@ fn pred(i: u32) -> u32
     i + 1
 }
 
-// Key i's predecessor leads to it, by its plain next and by its newest entry.
-fn link(nodes: &mut [u32], i: u32)
-    requires { ⌜ (i < 65536) × ((i + 2) * 6 ≤ length (now nodes)) ⌝ }
-    ensures { λ _. ⌜ now (nodes .exit) ≡ linked i (now (nodes .entry)) ⌝ }
+// What an insert's Prepare between pred and the tail writes: the new node, and both bundles' newest entries.
+fn prepare_node(nodes: &mut [u32], c: Counters, pred: u32, key: u32, value: u32)
+    requires { ⌜ c .entries + 2 ≤ 4294967295 ⌝ }
+    ensures { λ _. ⌜ now (nodes .exit) ≡ preparedNodes c pred key value (now (nodes .entry)) ⌝ }
 {
-    let at = pred(i) as usize * 6;
-    nodes[at + 2] = i + 2;
-    nodes[at + 5] = 2 * i + 2;
+    let n = c.nodes;
+    let e = c.entries;
+    nodes::new_node(nodes, n, key, value, 1);
+    nodes::put(nodes, pred, NEWEST, e + 1);
+    nodes::put(nodes, n, NEWEST, e + 2);
 }
 
-// The nodes with one key more.
-fn file_node(nodes: &mut [u32], i: u32, k: u32, v: u32)
-    requires { ⌜ (i < 65536) × ((i + 3) * 6 ≤ length (now nodes)) ⌝ }
-    ensures { λ _. ⌜ now (nodes .exit) ≡ filedNodes i k v (now (nodes .entry)) ⌝ }
+// And what its Link and its Finish write.
+fn file_node(nodes: &mut [u32], c: Counters, pred: u32, key: u32, value: u32)
+    requires { ⌜ c .entries + 2 ≤ 4294967295 ⌝ }
+    ensures { λ _. ⌜ now (nodes .exit) ≡ filedNodes c pred key value (now (nodes .entry)) ⌝ }
 {
-    let words = [k, v, 1, 0, 0, 2 * i + 3];
-    let place = (i as usize + 2) * 6;
-    link(nodes, i);
-    put_words(nodes, place, &words);
+    let n = c.nodes;
+    prepare_node(nodes, c, pred, key, value);
+    nodes::put(nodes, pred, NEXT, n);
+    nodes::unlock(nodes, pred);
 }
 
-// The entries with one key more.
-fn file_entries(entries: &mut [u32], i: u32)
-    requires { ⌜ (i < 65536) × ((2 * i + 3) * 4 ≤ length (now entries)) ⌝ }
-    ensures { λ _. ⌜ now (entries .exit) ≡ filedEntries i (now (entries .entry)) ⌝ }
+// The two entries that its Prepare lays and its Finish numbers.
+fn file_entries(entries: &mut [u32], c: Counters, older: u32)
+    requires { ⌜ (c .entries + 2 ≤ 4294967295) × (c .stamp + 1 ≤ 4294967295) ⌝ }
+    ensures { λ _. ⌜ now (entries .exit) ≡ filedEntries c older (now (entries .entry)) ⌝ }
 {
-    let before = [i + 2, i + 1, 0, 2 * i + 1];
-    let own = [1, i + 1, 0, 0];
-    let place = (2 * i as usize + 1) * 4;
-    let next = (2 * i as usize + 2) * 4;
-    put_words(entries, place, &before);
-    put_words(entries, next, &own);
+    let n = c.nodes;
+    let e = c.entries;
+    let stamp = c.stamp;
+    bundle::lay(entries, e, n, stamp, older);
+    bundle::lay(entries, e + 1, 1, stamp, 0);
+    bundle::finish(entries, e, stamp + 1);
+    bundle::finish(entries, e + 1, stamp + 1);
+}
+
+// The tables with one key more, above the i that they have.
+fn file(nodes: &mut [u32], entries: &mut [u32], i: u32, key: u32, value: u32)
+    requires { ⌜ i < 65536 ⌝ }
+    ensures { λ _. ⌜
+        tables (now (nodes .exit)) (now (entries .exit)) ≡
+        filed i key value (tables (now (nodes .entry)) (now (entries .entry)))
+        ⌝ }
+{
+    let c = count_used(i);
+    let p = pred(i);
+    let older = nodes::node(nodes, p, NEWEST);
+    file_node(nodes, c, p, key, value);
+    file_entries(entries, c, older);
 }
 
 // The tables with all keys.
 fn file_all(nodes: &mut [u32], entries: &mut [u32], keys: &[u32], values: &[u32])
-    requires { ⌜
-        (length (now keys) ≡ length (now values)) × (length (now keys) < 65536) ×
-        ((length (now keys) + 2) * 6 ≤ length (now nodes)) ×
-        ((2 * length (now keys) + 1) * 4 ≤ length (now entries))
-        ⌝ }
+    requires { ⌜ (length (now keys) ≡ length (now values)) × (length (now keys) < 65536) ⌝ }
     ensures { λ _. ⌜
         tables (now (nodes .exit)) (now (entries .exit)) ≡
         filedAll 0 (now (keys .entry)) (now (values .entry)) (tables (now (nodes .entry)) (now (entries .entry)))
@@ -126,8 +111,7 @@ fn file_all(nodes: &mut [u32], entries: &mut [u32], keys: &[u32], values: &[u32]
 {
     let mut i: usize = 0;
     while i < keys.len() {
-        file_node(nodes, i as u32, keys[i], values[i]);
-        file_entries(entries, i as u32);
+        file(nodes, entries, i as u32, keys[i], values[i]);
         i += 1;
     }
 }
@@ -135,25 +119,25 @@ fn file_all(nodes: &mut [u32], entries: &mut [u32], keys: &[u32], values: &[u32]
 // Fresh tables, then all keys.
 fn fill(nodes: &mut [u32], entries: &mut [u32], keys: &[u32], values: &[u32])
     requires { ⌜
-        (length (now keys) ≡ length (now values)) × (length (now keys) ≤ 510) ×
-        (length (now nodes) ≡ 3072) × (length (now entries) ≡ 8192)
+        (length (now keys) ≡ length (now values)) × (length (now keys) < 65536) ×
+        (fits small (now nodes) (now entries) ≡ true)
         ⌝ }
     ensures { λ _. ⌜
         tables (now (nodes .exit)) (now (entries .exit)) ≡
-        filedAll 0 (now (keys .entry)) (now (values .entry)) (freshTables 512 2048)
+        filedAll 0 (now (keys .entry)) (now (values .entry))
+        (freshTables (now (nodes .entry)) (now (entries .entry)))
         ⌝ }
 {
-    fresh_nodes(nodes);
-    fresh_entries(entries);
+    register::fresh(nodes, entries);
     file_all(nodes, entries, keys, values);
 }
 
 // For tables of the right lengths.
 fn load_into(input: &[u8], nodes: &mut [u32], entries: &mut [u32]) -> Loaded
-    requires { ⌜ (length (now nodes) ≡ 3072) × (length (now entries) ≡ 8192) ⌝ }
+    requires { ⌜ fits small (now nodes) (now entries) ≡ true ⌝ }
     ensures { λ r. ⌜
         done (tables (now (nodes .exit)) (now (entries .exit))) r ≡
-        loadOf 512 2048 keyRoom (now (input .entry)) (now (nodes .entry)) (now (entries .entry))
+        loadOf small (now (input .entry)) (now (nodes .entry)) (now (entries .entry))
         ⌝ }
 {
     let mut keys = [0u32; 510];
@@ -162,15 +146,20 @@ fn load_into(input: &[u8], nodes: &mut [u32], entries: &mut [u32]) -> Loaded
         Reading::Whole(_, count) => {
             let n = count as usize;
             fill(nodes, entries, &keys[..n], &values[..n]);
-            Loaded::Register {
-                nodes: 2 + count,
-                entries: 1 + 2 * count,
-                stamp: count,
-            }
+            Loaded::Register(count_used(count))
         }
         Reading::BadListing(p) => Loaded::BadListing(p),
         Reading::TooMany => Loaded::TooMany,
     }
+}
+
+fn right_lengths(z: Size, nodes: &[u32], entries: &[u32]) -> bool
+    ensures { λ r. ⌜ r ≡ fits z (now (nodes .entry)) (now (entries .entry)) ⌝ }
+{
+    if nodes.len() == z.nodes as usize * 6 {
+        return entries.len() == z.entries as usize * 4;
+    }
+    false
 }
 
 // Reads a listing into the two tables, which then hold what a fresh register holds after inserting the keys in order.
@@ -178,14 +167,12 @@ fn load_into(input: &[u8], nodes: &mut [u32], entries: &mut [u32]) -> Loaded
 pub fn load(input: &[u8], nodes: &mut [u32], entries: &mut [u32]) -> Loaded
     ensures { λ r. ⌜
         done (tables (now (nodes .exit)) (now (entries .exit))) r ≡
-        loadOf 512 2048 keyRoom (now (input .entry)) (now (nodes .entry)) (now (entries .entry))
+        loadOf small (now (input .entry)) (now (nodes .entry)) (now (entries .entry))
         ⌝ }
 {
-    if nodes.len() == 3072 {
-        if entries.len() == 8192 {
-            return load_into(input, nodes, entries);
-        }
-        return Loaded::BadTable;
+    let z = terms::small_size();
+    if right_lengths(z, nodes, entries) {
+        return load_into(input, nodes, entries);
     }
     Loaded::BadTable
 }

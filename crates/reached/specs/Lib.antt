@@ -1,3 +1,4 @@
--- Registers that calls reach, with their history, and what demand 2 says of them. In order: Reached, Answers.
+-- Registers that calls reach, with their history, and demands 2 and 3 of them. In order: Reached, Answers, Fair.
 pub mod Reached
 pub mod Answers
+pub mod Fair

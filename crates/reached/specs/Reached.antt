@@ -1,13 +1,15 @@
 -- A register reached from a fresh one by starts and steps, and the history that its calls give.
--- In order: a register's state; a call's effect and answer; the history; what a call adds to it; reached.
+-- In order: a register's state; a call's effect and answer; the history; what a call adds to it; a call's keys;
+-- reached.
 -- The history is computed from the calls and what they answered alone: nothing of an invariant is in it.
 -- Not here: a register read from a listing, which is a reached one by theorem. Assumes nothing.
-use Prim.Native.Nat.{ℕ}
+use Prim.Native.Nat.{ℕ, _≤_}
 use mathlib.Core.Path.{_≡_}
 use mathlib.Core.Bool.{Bool, cond}
 use mathlib.Core.List.{List, [], _∷_, _++_}
 use lib.Dec.{ltb, eqb}
 use Rattle.order.specs.Set.{Pair, Update, insert, remove}
+use Rattle.terms.specs.Terms.{soughtOf, highOf, tailKey}
 use Rattle.terms.specs.declared.Size.{Size}
 use Rattle.terms.specs.declared.Counters.{Counters}
 use Rattle.terms.specs.declared.Op.{Op}
@@ -107,8 +109,13 @@ note z σ c h = record {
   handed = handedBy (answer z σ c) (whoOf c) (h .handed);
 }
 
+-- ---- the keys of a call are words of 32 bits, of which the tail's key is the greatest: every number of a program is
+abbrev pub InWords : Call → Type 0
+InWords (Call.Start who op) = (soughtOf op ≤ tailKey) × (highOf op ≤ tailKey)
+InWords (Call.Step who) = Unit {0}
+
 -- ---- reached: from tables that fresh has opened, by starts and steps, each on what the last one left
 pub data Reached (z : Size) : State → Past → Type 0 where
   fresh : (ns es ns′ es′ : List ℕ) (c : Counters) → freshOf z ns es ≡ opened ns′ es′ (Opened.Ready c)
       → Reached z (record { nodes = ns′; entries = es′; register = freshRegister c }) noPast
-  on : {σ : State} {h : Past} → Reached z σ h → (c : Call) → Reached z (go z σ c) (note z σ c h)
+  on : {σ : State} {h : Past} → Reached z σ h → (c : Call) → InWords c → Reached z (go z σ c) (note z σ c h)

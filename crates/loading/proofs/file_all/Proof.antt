@@ -3,7 +3,8 @@ use Prim.Native.Nat.{_≤_, _-_}
 use mathlib.Core.Path.{_≡_}
 use lib.ListN.{length, drop}
 use borrow.Author.Needs.{needs}
-use Rattle.loading.specs.Tables.{tables, filedAll}
+use Rattle.steps.specs.Steps.{tables}
+use Rattle.loading.specs.Filing.{filedAll}
 use Rattle.loading.proofs.Words.{all-filed}
 use Rattle.loading.proofs.file_all.Statement.{statement}
 use Rattle.loading.proofs.file_all.Tie as tie
@@ -28,8 +29,6 @@ file-all-spec =
     (λ c. search needs)
     (λ c. search needs)
     (λ c. search needs)
-    (λ c. search needs)
-    (λ c κs. search needs)
     (λ c. search needs)
     (λ c κs. search needs)
     (λ c. search needs)

@@ -1,6 +1,6 @@
--- `loading::file_node` meets its contract: the link, then the node. Assumes nothing.
-use borrow.Author.Needs.{needs}
+-- `loading::file_node` meets its contract: each way out is a law of proofs/Words.antt. Assumes nothing.
 use Rattle.loading.proofs.Words.{files}
+use borrow.Author.Needs.{needs}
 use Rattle.loading.proofs.file_node.Statement.{statement}
 use Rattle.loading.proofs.file_node.Tie as tie
 
@@ -8,12 +8,8 @@ pub file-node-spec : {M : Type 1} → statement M
 file-node-spec =
     tie.close
     (tie.spec
-    (λ c. search needs)
-    (λ c. search needs)
-    (λ c. search needs)
-    (λ c. search needs)
     (λ c κs. search needs)
-    (λ c. search needs)
+    (λ c κs. search needs)
     (λ c κs. search needs)
     (λ c. search needs)
     (λ c. search files))

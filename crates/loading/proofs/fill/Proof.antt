@@ -1,6 +1,6 @@
--- `loading::fill` meets its contract: fresh tables, then all keys. Assumes nothing.
+-- `loading::fill` meets its contract: each way out is a law of proofs/Words.antt. Assumes nothing.
+use Rattle.loading.proofs.Words.{fills}
 use borrow.Author.Needs.{needs}
-use Rattle.loading.proofs.Words.{fill-all}
 use Rattle.loading.proofs.fill.Statement.{statement}
 use Rattle.loading.proofs.fill.Tie as tie
 
@@ -10,7 +10,6 @@ fill-spec =
     (tie.spec
     (λ c κs. search needs)
     (λ c κs. search needs)
-    (λ c κs. search needs)
     (λ c. search needs)
     (λ c. search needs)
-    (λ c. search fill-all))
+    (λ c. search fills))

@@ -1,6 +1,6 @@
--- `loading::load` meets its contract: 7 first. Assumes nothing.
+-- `loading::load` meets its contract: each way out is a law of proofs/Ways.antt. Assumes nothing.
+use Rattle.loading.proofs.Ways.{tables-first}
 use borrow.Author.Needs.{needs}
-use Rattle.loading.proofs.Ways.{bad-tables}
 use Rattle.loading.proofs.load.Statement.{statement}
 use Rattle.loading.proofs.load.Tie as tie
 
@@ -9,8 +9,11 @@ load-spec =
     tie.close
     (tie.spec
     (λ c κs. search needs)
+    (λ c κs. search needs)
+    (λ c κs. search tables-first)
     (λ c. search needs)
     (λ c. search needs)
     (λ c. search needs)
-    (λ c. search bad-tables)
-    (λ c. search bad-tables))
+    (λ c. search needs)
+    (λ c. search needs)
+    (λ c. search tables-first))

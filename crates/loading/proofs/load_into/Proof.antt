@@ -1,7 +1,6 @@
--- `loading::load_into` meets its contract: each answer of reading is a case of `loadOf`. Assumes nothing.
+-- `loading::load_into` meets its contract: each way out is a law of proofs/Ways.antt. Assumes nothing.
+use Rattle.loading.proofs.Ways.{handing, loads}
 use borrow.Author.Needs.{needs}
-use Rattle.listing.proofs.Put.{room-small}
-use Rattle.loading.proofs.Ways.{handing, fitting, loads}
 use Rattle.loading.proofs.load_into.Statement.{statement}
 use Rattle.loading.proofs.load_into.Tie as tie
 
@@ -18,10 +17,8 @@ load-into-spec =
     (λ c. search handing)
     (λ c. search handing)
     (λ c. search handing)
-    (λ c κs. (search handing, search handing, search needs, search needs))
-    (λ c. record { fits = search (fitting, room-small) })
-    (λ c. record { fits = search (fitting, room-small) })
-    (λ c. record { fits = search (fitting, room-small) })
+    (λ c κs. (search handing, search handing, search needs))
+    (λ c κs. search handing)
     (λ c. search needs)
     (λ c. search needs)
     (λ c. search needs)

@@ -1,6 +1,6 @@
--- `loading::pred` meets its contract: the head, or the node of the key before. Assumes nothing.
-use borrow.Author.Needs.{needs}
+-- `loading::pred` meets its contract: each way out is a law of proofs/Words.antt. Assumes nothing.
 use Rattle.loading.proofs.Words.{preds}
+use borrow.Author.Needs.{needs}
 use Rattle.loading.proofs.pred.Statement.{statement}
 use Rattle.loading.proofs.pred.Tie as tie
 

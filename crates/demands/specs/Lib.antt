@@ -1,0 +1,3 @@
+-- The demands as types.
+pub mod Demands
+pub mod Worked

@@ -1,0 +1,1 @@
+// No code: the demands as types (specs/) and their proofs (proofs/).

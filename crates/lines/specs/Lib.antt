@@ -1,0 +1,2 @@
+-- The runner's lines, in and out.
+pub mod Lines

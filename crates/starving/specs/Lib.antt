@@ -1,0 +1,1 @@
+-- Nothing of its own: demand 3's sentences are crate reached's, and fair calls are crate fairness's.
