@@ -72,7 +72,7 @@ extern "C" {
 #define RC_ABSENT 8
 #define RC_END 9      /* snapshot, keys handed out */
 #define RC_WRITTEN 10 /* the length */
-#define RC_LOADED 11  /* the keys */
+#define RC_LOADED 11  /* the stamp: one update for each key */
 
 /* ---- refusals */
 #define RC_BAD_SESSION 1
@@ -101,6 +101,16 @@ uint32_t ravencrumb_start(const uint32_t *nodes, size_t nodes_len, const uint32_
 /* One step of session `who`. Refuses 7, 1, 8 (the session's words are no record's), 5, 8 (damaged); 6 (full). */
 uint32_t ravencrumb_step(uint32_t *nodes, size_t nodes_len, uint32_t *entries, size_t entries_len, uint32_t *words,
                          size_t words_len, uint32_t *answer, size_t answer_len, uint32_t who);
+
+/* Writes a listing of a stamp, keys and values (as many values as keys) and answers its length; no byte past it changes.
+   Refuses 12, 11. */
+uint32_t ravencrumb_write(uint32_t stamp, const uint32_t *keys, size_t keys_len, const uint32_t *values,
+                          size_t values_len, uint8_t *out, size_t out_len, uint32_t *answer, size_t answer_len);
+
+/* Reads a listing into the tables and words: the register that a fresh one becomes after inserting the keys in order,
+   all sessions idle. Refuses 7, then 9 (answer word 2 is the offset of the first line not allowed there) or 10. */
+uint32_t ravencrumb_read(const uint8_t *input, size_t input_len, uint32_t *nodes, size_t nodes_len, uint32_t *entries,
+                         size_t entries_len, uint32_t *words, size_t words_len, uint32_t *answer, size_t answer_len);
 
 #ifdef __cplusplus
 }

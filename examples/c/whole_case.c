@@ -1,5 +1,5 @@
 /* Document 01's whole case through the C library: each call's answer as the line that the runner prints.
-   In order: the register's memory; one answer as a line; the case; a listing written and read back.
+   In order: the register's memory; one answer as a line; a listing written and read back; the case.
    Build: gcc -Iinclude examples/c/whole_case.c target/staticlib/libffi.a */
 #include <stdio.h>
 #include <string.h>
@@ -43,6 +43,31 @@ static void step(uint32_t who, int times) {
     }
 }
 
+/* ---- the keys that a range over all keys hands out, written as a listing and read into another register */
+static int copied(void) {
+    static uint32_t keys[RC_MOST_KEYS], values[RC_MOST_KEYS];
+    static uint32_t more_nodes[RC_NODE_WORDS], more_entries[RC_ENTRY_WORDS], more_words[RC_WORDS];
+    static uint8_t listing[RC_LISTING_BYTES];
+    uint32_t n = 0;
+    ravencrumb_start(nodes, RC_NODE_WORDS, entries, RC_ENTRY_WORDS, words, RC_WORDS, answer, RC_ANSWER_WORDS, 2,
+                     RC_RANGE, 1, UINT32_MAX - 1);
+    do {
+        ravencrumb_step(nodes, RC_NODE_WORDS, entries, RC_ENTRY_WORDS, words, RC_WORDS, answer, RC_ANSWER_WORDS, 2);
+        if (answer[0] == RC_KEY) {
+            keys[n] = answer[1];
+            values[n++] = answer[2];
+        }
+    } while (answer[0] == RC_WORKING || answer[0] == RC_WAITING || answer[0] == RC_KEY);
+    if (answer[0] != RC_END) return 1;
+    if (ravencrumb_write(answer[1], keys, n, values, n, listing, RC_LISTING_BYTES, answer, RC_ANSWER_WORDS)) return 1;
+    uint32_t length = answer[1];
+    fwrite(listing, 1, length, stdout);
+    if (ravencrumb_read(listing, length, more_nodes, RC_NODE_WORDS, more_entries, RC_ENTRY_WORDS, more_words, RC_WORDS,
+                        answer, RC_ANSWER_WORDS))
+        return 1;
+    return memcmp(nodes, more_nodes, sizeof nodes) || memcmp(entries, more_entries, sizeof entries);
+}
+
 int main(void) {
     if (ravencrumb_fresh(nodes, RC_NODE_WORDS, entries, RC_ENTRY_WORDS, words, RC_WORDS) != 0) return 1;
     /* ---- the case: a range before the update's Number ends empty, one after it waits for the update */
@@ -55,5 +80,5 @@ int main(void) {
     step(1, 3);
     step(0, 2);
     step(1, 3);
-    return 0;
+    return copied();
 }

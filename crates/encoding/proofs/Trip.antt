@@ -1,4 +1,5 @@
--- The round trip: a record's words decode to that record, decoded words encode back to themselves, and malformed words
+-- The round trip: a record's words decode to that record, decoded words encode back to themselves, and malformed
+-- words
 -- are no record's.
 -- In order: words that test as the same are the same; the record that a record's words stand for; the three laws.
 -- Assumes nothing.
@@ -14,7 +15,8 @@ use Rattle.steps.specs.declared.Session.{Session}
 use Rattle.encoding.specs.declared.Words.{Words}
 use Rattle.encoding.specs.declared.Decoded.{Decoded}
 use Rattle.encoding.specs.Encoding.{kindWith, phaseWith, opWords, phaseWords, encode, opFrom, walkingFrom}
-use Rattle.encoding.specs.Encoding.{updatingFrom, readingFrom, phaseFrom, sessionFrom, sameThree, sameWords, decode}
+use Rattle.encoding.specs.Encoding.{updatingFrom, readingFrom, phaseFrom, sessionFrom, sameThree, sameWords}
+use Rattle.encoding.specs.Encoding.{decode}
 use Rattle.encoding.proofs.Ways.{sameOp, sameFront, sameBack}
 
 -- ---- words that test as the same are the same

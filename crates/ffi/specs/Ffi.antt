@@ -1,7 +1,8 @@
 -- The calls for other programs: what each leaves in the lent slices, and the number that it returns.
--- In order: the slices' lengths; a refusal; fresh (7); start (7, 1, 8, then 2, 3, 4 by the register); step (7, 1, 8, then
--- 5 and 8 by the register); writing a listing (12, 11). `z` is the size, `ns` and `es` are the tables, `ws` the counters' and records' words, `out`
--- the answer's. A refusal changes nothing but the answer (proofs/Kept.antt); an answer of another length than 3 stays.
+-- In order: the slices' lengths; a refusal; fresh (7); start (7, 1, 8, then 2, 3, 4 by the register); step (7, 1, 8,
+-- then 5 and 8 by the register); writing a listing (12, 11); reading one (7, then 9 or 10). `z` is the size, `ns` and
+-- `es` are the tables, `ws` the counters' and records' words, `out` the answer's. A refusal changes nothing but the
+-- answer (proofs/Kept.antt); an answer of another length than 3 stays.
 -- Not here: the register's calls (crate register), where words lie (crate packing). Assumes nothing.
 use Prim.Native.Nat.{ℕ, _%_}
 use mathlib.Core.List.{List}
@@ -14,12 +15,14 @@ use Rattle.terms.specs.declared.Counters.{Counters}
 use Rattle.terms.specs.declared.Op.{Op}
 use Rattle.terms.specs.declared.Answer.{Answer}
 use Rattle.steps.specs.declared.Session.{Session}
-use Rattle.steps.specs.Steps.{Done, done}
+use Rattle.steps.specs.Steps.{Done, done, tables}
 use Rattle.register.specs.declared.Started.{Started}
 use Rattle.register.specs.declared.Opened.{Opened}
 use Rattle.register.specs.Register.{fits, Fresh, opened, freshOf, startOf, stepOf}
 use Rattle.listing.specs.Listing.{Done as ListingDone, done as listed, writeOf}
 use Rattle.listing.specs.declared.Written.{Written}
+use Rattle.loading.specs.Loading.{Done as LoadingDone, done as loads, loadOf}
+use Rattle.loading.specs.declared.Loaded.{Loaded}
 use Rattle.encoding.specs.declared.Decoded.{Decoded}
 use Rattle.encoding.specs.Encoding.{encode, opFrom, decode}
 use Rattle.packing.specs.declared.Reply.{Reply}
@@ -79,7 +82,8 @@ deaf ws out number = heard ws (putReply out (refusedBy number)) number
 
 abbrev pub afterStart : List ℕ → List ℕ → ℕ → Started → Heard
 afterStart ws out who r =
-    heard (putRecord ws who (encode (r .session))) (putReply out (replyOf (r .answer))) (numberOf (replyOf (r .answer)))
+    heard (putRecord ws who (encode (r .session))) (putReply out (replyOf (r .answer))) (numberOf (replyOf (r
+    .answer)))
 
 unfoldable pub startRecord : Size → List ℕ → List ℕ → List ℕ → List ℕ → ℕ → Op → Session → Heard
 startRecord z ns es ws out who op s = afterStart ws out who (startOf z ns es who s op)
@@ -139,3 +143,30 @@ afterWrite answer (listed out w) = wrote out (putReply answer (writtenReply w)) 
 unfoldable pub writeCall : ℕ → ℕ → List ℕ → List ℕ → List ℕ → List ℕ → Wrote
 writeCall most stamp ks vs out answer =
     cond (eqb (length answer) 3) (afterWrite answer (writeOf most stamp ks vs out)) (wrote out answer 7)
+
+-- ---- reading a listing (7, then 9 with the offset, or 10): the loaded register's words, or all as it was; the
+-- answer's name is 11, its value the stamp
+abbrev pub loadedReply : Loaded → Reply
+loadedReply (Loaded.Register c) = replyWith 11 (c .stamp) 0
+loadedReply Loaded.BadTable = refusedBy 7
+loadedReply (Loaded.BadListing offset) = replyWith 0 9 (asWord offset)
+loadedReply Loaded.TooMany = refusedBy 10
+
+abbrev pub loadedWords : List ℕ → Loaded → List ℕ
+loadedWords ws (Loaded.Register c) = freshWords ws c
+loadedWords ws Loaded.BadTable = ws
+loadedWords ws (Loaded.BadListing offset) = ws
+loadedWords ws Loaded.TooMany = ws
+
+abbrev pub afterRead : List ℕ → List ℕ → LoadingDone → Left
+afterRead ws out (loads (tables ns es) l) =
+    left ns es (loadedWords ws l) (putReply out (loadedReply l)) (numberOf (loadedReply l))
+
+unfoldable pub readLoaded : Size → List ℕ → List ℕ → List ℕ → List ℕ → List ℕ → Left
+readLoaded z input ns es ws out = afterRead ws out (loadOf z input ns es)
+
+unfoldable pub readCall : Size → List ℕ → List ℕ → List ℕ → List ℕ → List ℕ → Left
+readCall z input ns es ws out =
+    cond (eqb (length out) 3)
+    (cond (eqb (length ws) wordsRoom) (readLoaded z input ns es ws out) (stays ns es ws out 7))
+    (left ns es ws out 7)

@@ -2,7 +2,8 @@
 -- query ends amid intake.
 -- In order: a fresh register; what it is that a phase or an answer comes; a query amid intake; all of it.
 -- Full (6) does not come by computing, since 510 inserts come before it: P11 (crate demands) shows it from the
--- counters, and no run that ends in it is given here. BadTable (7) never comes in a reached register, by `no-bad-table` below; Damaged (8) never does, by
+-- counters, and no run that ends in it is given here. BadTable (7) never comes in a reached register, by
+-- `no-bad-table` below; Damaged (8) never does, by
 -- demand 2's `undamaged`.
 -- Not here: the proof (proofs/Possible.antt). Assumes nothing.
 use Prim.Native.Nat.{ℕ}

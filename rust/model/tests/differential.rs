@@ -1,9 +1,10 @@
 //! The proved register compared with the model, call by call and word by word.
 //! In order: scale and seeds; registers that began fresh, under random schedules of sixteen sessions; any content; wrong
-//! lengths; every refusal number and each neighbouring pair in document 01's order.
+//! lengths; listings; every refusal number and each neighbouring pair in document 01's order.
 //! RAVENCRUMB_SCALE multiplies the steps (1 in the gate), RAVENCRUMB_SEED sets the first seed; seeds are printed.
 
 use model::content::Content;
+use model::listing::{self, Bad};
 use model::living::{Answer, Living, Op};
 use model::random::Random;
 use ravencrumb::raw;
@@ -486,6 +487,146 @@ fn wrong_lengths() {
             assert!(w.nodes == before.nodes && w.entries == before.entries && w.words == before.words);
         }
     }
+}
+
+// ---- listings: written, read, mutated, truncated
+/// The register that inserting the pairs in order gives, by the model.
+fn filed(pairs: &[(u32, u32)]) -> Living {
+    let mut model = Living::fresh();
+    for (key, value) in pairs {
+        assert_eq!(model.start(0, Op::Insert(*key, *value)), Answer::Started);
+        while model.busy(0) {
+            model.step(0);
+        }
+    }
+    model
+}
+
+/// Reads into tables of any content and compares the answer and all words; returns the number.
+fn read(r: &mut Random, bytes: &[u8], seed: u64) -> u32 {
+    let mut real = Words::empty();
+    for word in real.nodes.iter_mut().chain(&mut real.entries).chain(&mut real.words) {
+        *word = r.next() as u32;
+    }
+    let before = real.clone();
+    let number = raw::read(bytes, &mut real.nodes, &mut real.entries, &mut real.words, &mut real.answer);
+    let expected = match listing::read(bytes) {
+        Ok(pairs) => {
+            let model = filed(&pairs);
+            assert_eq!(real.differs(&model.words()), None, "seed {seed}");
+            [11, pairs.len() as u32, 0]
+        }
+        Err(bad) => {
+            assert!(before.nodes == real.nodes && before.entries == real.entries && before.words == real.words);
+            match bad {
+                Bad::Line(offset) => [0, 9, offset as u32],
+                Bad::TooMany => [0, 10, 0],
+            }
+        }
+    };
+    let text = String::from_utf8_lossy(&bytes[..bytes.len().min(200)]);
+    assert_eq!(real.answer, expected, "seed {seed}: {text:?}");
+    assert_eq!(number, if expected[0] == 0 { expected[1] } else { 0 });
+    number
+}
+
+/// Some pairs, rising; some of them not allowed where `spoilt`.
+fn pairs(r: &mut Random, spoilt: bool) -> (Vec<u32>, Vec<u32>) {
+    let many = r.of(&[0, 1, 2, 3, 10, 100, 509, 510, 511]);
+    let step = r.of(&[1, 3, 1000, 8_000_000]);
+    let mut key = 0u32;
+    let mut keys: Vec<u32> = (0..many).map(|_| { key = key.saturating_add(1 + r.below(step) as u32); key }).collect();
+    let mut values: Vec<u32> = (0..many).map(|_| r.next() as u32 >> r.below(32)).collect();
+    if spoilt && many > 0 {
+        let i = r.below(many) as usize;
+        match r.below(4) {
+            0 => keys[i] = r.of(&[0, u32::MAX]),
+            1 => keys[i] = keys[r.below(many) as usize],
+            2 => keys.push(u32::MAX - 1),
+            _ => values.push(0),
+        }
+    }
+    (keys, values)
+}
+
+#[test]
+fn listings() {
+    let began = std::time::Instant::now();
+    let (mut written, mut numbers) = (0u64, std::collections::BTreeMap::<u32, u64>::new());
+    for seed in seeds("listings", 400 * scale()) {
+        let mut r = Random::new(seed ^ 0x6c69_7374);
+        let spoilt = r.one_in(3);
+        let (keys, values) = pairs(&mut r, spoilt);
+        let stamp = r.next() as u32 >> r.below(32);
+        let whole = listing::write(stamp, &keys, &values, usize::MAX);
+        let room = match &whole {
+            Ok(text) => (text.len() as i64 + r.of(&[-1, 0, 1, 100, -(text.len() as i64)])) as usize,
+            Err(_) => 20_000,
+        };
+        let mut out = vec![77u8; room];
+        let mut answer = [0; 3];
+        let number = raw::write(stamp, &keys, &values, &mut out, &mut answer);
+        match listing::write(stamp, &keys, &values, room) {
+            Ok(text) => {
+                assert_eq!((number, answer), (0, [10, text.len() as u32, 0]), "seed {seed}");
+                assert_eq!(&out[..text.len()], &text[..], "seed {seed}");
+                assert!(out[text.len()..].iter().all(|b| *b == 77));
+            }
+            Err(why) => {
+                assert_eq!((number, answer), (why, [0, why, 0]), "seed {seed}");
+                assert!(out.iter().all(|b| *b == 77));
+            }
+        }
+        written += 1;
+        *numbers.entry(number).or_default() += 1;
+        // read: as written by the model (a 511th key with it), mutated, truncated, with something behind it
+        let lines: String = keys.iter().zip(&values).map(|(k, v)| format!("key={k}\nvalue={v}\n")).collect();
+        let text = format!("edition=1\nstamp={stamp}\n{lines}count={}\n", keys.len()).into_bytes();
+        *numbers.entry(read(&mut r, &text, seed)).or_default() += 1;
+        for _ in 0..20 {
+            let mut other = text.clone();
+            for _ in 0..1 + r.below(2) {
+                let at = r.below(other.len() as u64) as usize;
+                match r.below(5) {
+                    0 => other[at] = r.of(b"0123456789=\nkeyvalu "),
+                    1 => other[at] = r.next() as u8,
+                    2 => drop(other.remove(at)),
+                    3 => other.insert(at, r.of(b"0123456789=\n")),
+                    _ => other.truncate(at.max(1)),
+                }
+            }
+            *numbers.entry(read(&mut r, &other, seed)).or_default() += 1;
+        }
+    }
+    println!("listings: {written} written, numbers met {numbers:?}, {:.1} s", began.elapsed().as_secs_f64());
+    for number in [0, 9, 10, 11, 12] {
+        assert!(numbers.contains_key(&number), "{number} was never met");
+    }
+    // the answers' own cases
+    let mut r = Random::new(0);
+    let at = |text: &str| match listing::read(text.as_bytes()) { Err(Bad::Line(p)) => p, _ => usize::MAX };
+    let cases = [("", 0), ("edition=2\nstamp=0\ncount=0\n", 0), ("edition=1\n", 10), ("edition=1\nstamp=01\ncount=0\n", 10)];
+    for (text, offset) in cases {
+        assert_eq!(at(text), offset);
+        assert_eq!(read(&mut r, text.as_bytes(), 0), 9);
+    }
+    assert_eq!(read(&mut r, b"edition=1\nstamp=0\ncount=0\n", 0), 0);
+    // wrong lengths come first: 7, and an answer of another length stays
+    let mut real = Words::fresh();
+    let before = real.clone();
+    for (cut_words, cut_nodes) in [(1, 0), (0, 1)] {
+        let (n, w) = (real.nodes.len() - cut_nodes, real.words.len() - cut_words);
+        let mut answer = [9; 3];
+        assert_eq!(raw::read(b"", &mut real.nodes[..n], &mut real.entries, &mut real.words[..w], &mut answer), 7);
+        assert_eq!(answer, [0, 7, 0]);
+        let mut longer = [9; 4];
+        assert_eq!(raw::read(b"", &mut real.nodes[..n], &mut real.entries, &mut real.words[..w], &mut longer), 7);
+        assert_eq!(raw::write(0, &[1], &[], &mut [], &mut longer), 7);
+        assert_eq!(longer, [9; 4]);
+        assert!(real == before);
+    }
+    assert_eq!(raw::write(0, &[1], &[], &mut [], &mut real.answer), 12); // 12 comes before 11
+    assert_eq!(raw::write(0, &[1], &[1], &mut [], &mut real.answer), 11);
 }
 
 // ---- every refusal number, and each neighbouring pair in the order: start 7, 1, 8, 2, 3, 4; step 7, 1, 8, 5, 8

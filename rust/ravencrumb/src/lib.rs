@@ -1,6 +1,6 @@
 //! A safe wrapper over the proved register: sixteen sessions file keys with values, one small step at a time.
 //!
-//! In order: operations, answers and refusals; the register; the bare calls over slices (`raw`).
+//! In order: operations, answers and refusals; the register; writing a listing; the bare calls over slices (`raw`).
 //! Nothing here panics, and nothing is unsafe to call: the library's calls ask for nothing, any length and any content
 //! of the slices is answered or refused by number, and Rust's own rules keep the slices apart.
 //!
@@ -152,6 +152,16 @@ impl Register {
         r
     }
 
+    /// The register that a fresh one becomes after inserting the listing's keys in order.
+    pub fn read(listing: &[u8]) -> Result<Register, Refusal> {
+        let mut r = Register::empty();
+        let mut answer = [0; raw::ANSWER_WORDS];
+        match raw::read(listing, &mut r.nodes, &mut r.entries, &mut r.words, &mut answer) {
+            0 => Ok(r),
+            number => Err(Refusal::of(number, answer[2])),
+        }
+    }
+
     /// Starts an operation of a session, 0 to 15; no step of it is made.
     pub fn start(&mut self, session: u32, operation: Operation) -> Result<(), Refusal> {
         let (kind, first, second) = operation.words();
@@ -187,5 +197,18 @@ impl Register {
     /// The node table, the entries table, and the counters' and records' words.
     pub fn words(&self) -> (&[u32], &[u32], &[u32]) {
         (&self.nodes, &self.entries, &self.words)
+    }
+}
+
+/// A listing of a stamp, rising keys and their values.
+pub fn write(stamp: u32, keys: &[u32], values: &[u32]) -> Result<Vec<u8>, Refusal> {
+    let mut out = vec![0; raw::LISTING_BYTES];
+    let mut answer = [0; raw::ANSWER_WORDS];
+    match raw::write(stamp, keys, values, &mut out, &mut answer) {
+        0 => {
+            out.truncate(answer[1] as usize);
+            Ok(out)
+        }
+        number => Err(Refusal::of(number, answer[2])),
     }
 }

@@ -7,6 +7,7 @@ pub const WORDS: usize = 147;
 pub const RECORD_WORDS: usize = 9;
 pub const ANSWER_WORDS: usize = 3;
 pub const STAMP: usize = 2;
+pub const LISTING_BYTES: usize = 16357;
 
 mod c {
     extern "C" {
@@ -17,6 +18,14 @@ mod c {
         ) -> u32;
         pub fn ravencrumb_step(
             n: *mut u32, nl: usize, e: *mut u32, el: usize, w: *mut u32, wl: usize, a: *mut u32, al: usize, who: u32,
+        ) -> u32;
+        pub fn ravencrumb_write(
+            stamp: u32, k: *const u32, kl: usize, v: *const u32, vl: usize, o: *mut u8, ol: usize, a: *mut u32,
+            al: usize,
+        ) -> u32;
+        pub fn ravencrumb_read(
+            i: *const u8, il: usize, n: *mut u32, nl: usize, e: *mut u32, el: usize, w: *mut u32, wl: usize,
+            a: *mut u32, al: usize,
         ) -> u32;
     }
 }
@@ -49,6 +58,26 @@ pub fn step(nodes: &mut [u32], entries: &mut [u32], words: &mut [u32], answer: &
         c::ravencrumb_step(
             nodes.as_mut_ptr(), nodes.len(), entries.as_mut_ptr(), entries.len(), words.as_mut_ptr(), words.len(),
             answer.as_mut_ptr(), answer.len(), who,
+        )
+    }
+}
+
+pub fn write(stamp: u32, keys: &[u32], values: &[u32], out: &mut [u8], answer: &mut [u32]) -> u32 {
+    // Safe: as in `fresh`; keys and values are only read.
+    unsafe {
+        c::ravencrumb_write(
+            stamp, keys.as_ptr(), keys.len(), values.as_ptr(), values.len(), out.as_mut_ptr(), out.len(),
+            answer.as_mut_ptr(), answer.len(),
+        )
+    }
+}
+
+pub fn read(input: &[u8], nodes: &mut [u32], entries: &mut [u32], words: &mut [u32], answer: &mut [u32]) -> u32 {
+    // Safe: as in `fresh`; the input is only read.
+    unsafe {
+        c::ravencrumb_read(
+            input.as_ptr(), input.len(), nodes.as_mut_ptr(), nodes.len(), entries.as_mut_ptr(), entries.len(),
+            words.as_mut_ptr(), words.len(), answer.as_mut_ptr(), answer.len(),
         )
     }
 }
