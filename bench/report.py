@@ -135,8 +135,10 @@ PAGE = """# The benchmark
 
 {targets}
 
-"Time" is the median over {turns} turns of the ratio within a turn. The machine was shared with other work, so the
-instruction counts, which repeat, are the figures to compare from one day to another.
+"Time" is the median over {turns} turns of the ratio within a turn. A machine may be shared with other work, so the
+instruction counts, which repeat, are the figures to compare from one day to another. The same ratios of the twin,
+which say what a call a step costs where nothing is proved:
+{twin}.
 
 ## Nanoseconds
 
@@ -178,7 +180,10 @@ def main():
     said_counts = costs(lambda n, w: counted.get(n, {}).get(w))
     goals = targets(turns, counted)
     machine = f"{platform.machine()}, {os.cpu_count()} cores, {platform.system()}"
-    page = PAGE.format(targets=goals, times=said_times, counts=said_counts, turns=len(turns), machine=machine)
+    twin = [(what, ratio(turns, "twin", "lmdb", what)) for what in ("key", "update")]
+    twin = ", ".join(f"{dict(FIGURES)[w]} {r[0]:.2f} times LMDB's" for w, r in twin if r) or "not measured"
+    said = {"targets": goals, "twin": twin, "times": said_times, "counts": said_counts}
+    page = PAGE.format(turns=len(turns), machine=machine, **said)
     with open(os.path.join(docs, "BENCH.md"), "w") as f:
         f.write(page)
     with open(os.path.join(docs, "bench.svg"), "w") as f:

@@ -117,9 +117,8 @@ impl Register for Lent {
     fn fresh(&mut self) {
         let Lent { nodes: n, entries: e, words: w, .. } = self;
         // SAFETY: as above.
-        let refused = unsafe {
-            ravencrumb_fresh(n.as_mut_ptr(), n.len(), e.as_mut_ptr(), e.len(), w.as_mut_ptr(), w.len())
-        };
+        let refused =
+            unsafe { ravencrumb_fresh(n.as_mut_ptr(), n.len(), e.as_mut_ptr(), e.len(), w.as_mut_ptr(), w.len()) };
         assert_eq!(refused, 0);
     }
 

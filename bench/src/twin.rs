@@ -24,6 +24,8 @@ pub enum Op {
     None,
     Insert(u32, u32),
     Remove(u32),
+    #[allow(dead_code)]
+    Has(u32),
     Range(u32, u32),
 }
 
@@ -38,6 +40,7 @@ pub enum Phase {
     Number { pred: u32, node: u32, lower: u32, upper: u32 },
     Link { pred: u32, node: u32, lower: u32, upper: u32, number: u32 },
     Finish { pred: u32, node: u32, lower: u32, upper: u32, number: u32 },
+    Newest { at: u32 },
     Fix { pred: u32 },
     Follow { at: u32, snapshot: u32, handed: u32 },
     Hand { at: u32, snapshot: u32, handed: u32 },
@@ -116,7 +119,7 @@ impl Default for Twin {
 fn sought(op: Op) -> u32 {
     match op {
         Op::None => 0,
-        Op::Insert(key, _) | Op::Remove(key) => key,
+        Op::Insert(key, _) | Op::Remove(key) | Op::Has(key) => key,
         Op::Range(low, _) => low,
     }
 }
@@ -191,6 +194,17 @@ impl Twin {
             link = self.entry(e, OLDER);
         }
         Read::Damaged
+    }
+
+    /// Rule B4.
+    fn read_newest(&self, newest: u32) -> Read {
+        if newest == 0 || newest > ENTRIES {
+            return Read::Damaged;
+        }
+        match self.entry(newest - 1, PENDING) {
+            0 => Read::Take(self.entry(newest - 1, TARGET)),
+            _ => Read::Wait,
+        }
     }
 
     fn held(&self, node: u32) -> Held {
@@ -290,6 +304,7 @@ impl Twin {
             Phase::Finish { pred, node, lower, upper, number } => {
                 self.finish(who, op, pred, node, lower, upper, number)
             }
+            Phase::Newest { at } => self.newest(who, op, at),
             Phase::Fix { pred } => self.on(who, Phase::Follow { at: pred, snapshot: self.stamp, handed: 0 }),
             Phase::Follow { at, snapshot, handed } => self.follow(who, op, at, snapshot, handed),
             Phase::Hand { at, snapshot, handed } => self.hand_out(who, at, snapshot, handed),
@@ -317,6 +332,7 @@ impl Twin {
         let arrived = match op {
             Op::None => Phase::Idle,
             Op::Insert(..) | Op::Remove(_) => Phase::Lock { pred, curr },
+            Op::Has(_) => Phase::Newest { at: pred },
             Op::Range(..) => Phase::Fix { pred },
         };
         self.on(who, arrived)
@@ -360,8 +376,7 @@ impl Twin {
         if pred >= NODES || curr >= NODES {
             return DAMAGED;
         }
-        let linked =
-            self.node(pred, REMOVED) == 0 && self.node(curr, REMOVED) == 0 && self.node(pred, NEXT) == curr;
+        let linked = self.node(pred, REMOVED) == 0 && self.node(curr, REMOVED) == 0 && self.node(pred, NEXT) == curr;
         if linked && self.node(curr, KEY) == sought(op) {
             return self.on(who, Phase::Prepare { pred, curr });
         }
@@ -461,6 +476,29 @@ impl Twin {
         let answer = match removes(op) {
             true => Answer::Removed(number),
             false => Answer::Inserted(number),
+        };
+        self.end(who, answer)
+    }
+
+    fn newest(&mut self, who: u32, op: Op, at: u32) -> Answer {
+        if at >= NODES {
+            return DAMAGED;
+        }
+        let to = match self.read_newest(self.node(at, NEWEST)) {
+            Read::Wait => return Answer::Waiting,
+            Read::Damaged => return DAMAGED,
+            Read::Take(to) => to,
+        };
+        if to >= NODES {
+            return DAMAGED;
+        }
+        let key = self.node(to, KEY);
+        if key < sought(op) {
+            return self.on(who, Phase::Newest { at: to });
+        }
+        let answer = match key == sought(op) {
+            true => Answer::Present,
+            false => Answer::Absent,
         };
         self.end(who, answer)
     }
