@@ -21,4 +21,5 @@ pub mod Standstill
 pub mod Room
 pub mod Given
 pub mod Reached
+pub mod Shape
 pub mod Example

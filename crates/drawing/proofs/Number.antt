@@ -61,7 +61,7 @@ module _ (key val : ℕ → ℕ) (start : Start) (t : ℕ) (m : Drawing) (I : In
     was : inSet key val start (keyIn u) (m .log) ≡ wasThere u
 
   -- pred is in the set and leads to what its plain next names
-  pred-now : (u : Update) (p y z c : ℕ) → Facts key val start m t (numbering u p y z c) →
+  pub pred-now : (u : Update) (p y z c : ℕ) → Facts key val start m t (numbering u p y z c) →
       In key val start m p × (lead start m p ≡ some (oldNext u y z))
   pred-now u p y z c F =
       let d = F .1 .pred (F .2 .pred-on) (F .2 .pred-gone) in (d .0, d .1 ∙ ap some (F .2 .pred-next))

@@ -14,4 +14,5 @@ pub mod Reading
 pub mod Rules
 pub mod Frame
 pub mod Near
+pub mod Shape
 pub mod Figure
