@@ -14,7 +14,8 @@ use Rattle.steps.specs.declared.Session.{Session}
 use Rattle.encoding.specs.declared.Words.{Words}
 use Rattle.encoding.specs.declared.Decoded.{Decoded}
 use Rattle.encoding.specs.Encoding.{kindWith, phaseWith, opWords, phaseWords, encode, opFrom, walkingFrom}
-use Rattle.encoding.specs.Encoding.{updatingFrom, readingFrom, phaseFrom, sessionFrom, sameThree, sameWords, decode}
+use Rattle.encoding.specs.Encoding.{updatingFrom, readingFrom, phaseFrom, sessionFrom, sameThree, sameWords}
+use Rattle.encoding.specs.Encoding.{decode}
 use Rattle.encoding.proofs.Ways.{sameOp, sameFront, sameBack}
 
 -- ---- words that test as the same are the same

@@ -1,5 +1,6 @@
 -- Each way out of the encoding's functions, over plain values: what the code read and tested, and what it then is.
--- In order: the words of an operation; of a phase; of a record; an operation from its words; a phase from its words; are two the same; decoding. Assumes nothing.
+-- In order: the words of an operation; of a phase; of a record; an operation from its words; a phase from its words;
+-- are two the same; decoding. Assumes nothing.
 use Prim.Native.Nat.{ℕ, _≤_, _<_}
 use mathlib.Core.Path.{_≡_, ap, _∙_}
 use mathlib.Core.Bool.{Bool, true, false}
@@ -12,7 +13,8 @@ use Rattle.encoding.specs.declared.OpWords.{OpWords}
 use Rattle.encoding.specs.declared.PhaseWords.{PhaseWords}
 use Rattle.encoding.specs.declared.Words.{Words}
 use Rattle.encoding.specs.declared.Decoded.{Decoded}
-use Rattle.encoding.specs.Encoding.{kindWith, opWords, phaseWith, phaseWords, encode, opFrom, walkingFrom, updatingFrom, readingFrom, phaseFrom}
+use Rattle.encoding.specs.Encoding.{kindWith, opWords, phaseWith, phaseWords, encode, opFrom, walkingFrom}
+use Rattle.encoding.specs.Encoding.{updatingFrom, readingFrom, phaseFrom}
 use Rattle.encoding.specs.Encoding.{sessionFrom, sameThree, sameWords, decode}
 
 -- ---- the words of an operation, of a phase, of a record

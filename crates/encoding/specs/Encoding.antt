@@ -1,7 +1,9 @@
--- A session's record as nine words: which operation (kind and two numbers), which phase, and that phase's own numbers.
+-- A session's record as nine words: which operation (kind and two numbers), which phase, and that phase's own
+-- numbers.
 -- In order: the words of a record; the record that words would stand for; are two the same; decoding. Kinds: 0 none,
--- 1 insert, 2 remove, 3 has, 4 range. Phases, in the order of document 01's Steps: 0 idle, 1 Walk, 2 Lock, 3 Lock curr,
--- 4 Check, 5 Prepare, 6 Number, 7 Link, 8 Finish, 9 has's Follow, 10 Fix, 11 Follow, 12 Hand. Unused words are 0.
+-- 1 insert, 2 remove, 3 has, 4 range. Phases, in the order of document 01's Steps: 0 idle, 1 Walk, 2 Lock, 3 Lock
+-- curr, 4 Check, 5 Prepare, 6 Number, 7 Link, 8 Finish, 9 has's Follow, 10 Fix, 11 Follow, 12 Hand. Unused words are
+-- 0.
 -- Not here: where the words lie (crate packing). Assumes nothing.
 use Prim.Native.Nat.{ℕ}
 use mathlib.Core.Bool.{Bool, true, false, cond, _&&_}

@@ -46,8 +46,8 @@ unfoldable pub writeCall : ℕ → ℕ → List ℕ → List ℕ → List ℕ �
 writeCall most stamp ks vs out answer =
     cond (eqb (length answer) 3) (afterWrite answer (writeOf most stamp ks vs out)) (wrote out answer 7)
 
--- ---- reading a listing (7, then 9 with the offset, or 10): the loaded register's words, or all as it was; the answer's
--- name is 11, its value the stamp
+-- ---- reading a listing (7, then 9 with the offset, or 10): the loaded register's words, or all as it was; the
+-- answer's name is 11, its value the stamp
 pub data Left : Type 0 where
   left : List ℕ → List ℕ → List ℕ → List ℕ → ℕ → Left
 

@@ -42,7 +42,8 @@ pub fn write_listing(
     answer: &mut [u32],
 ) -> u32
     ensures { λ r. ⌜ wrote (now (out .exit)) (now (answer .exit)) r
-        ≡ writeCall keyRoom stamp (now (keys .entry)) (now (values .entry)) (now (out .entry)) (now (answer .entry)) ⌝ }
+        ≡ writeCall keyRoom stamp (now (keys .entry)) (now (values .entry)) (now (out .entry))
+        (now (answer .entry)) ⌝ }
 {
     if answer.len() == 3 {
         let w = listing::write(stamp, keys, values, out);

@@ -50,8 +50,8 @@ pub refuses : (out out′ : List ℕ) (n : ℕ) (r : Reply) → r ≡ refusedBy 
     → told out′ n ≡ refusal out n
 refuses out out′ n r e h = rw (h, e)
 
-pub tells : (out out′ : List ℕ) (a : Answer) (n : ℕ) (y : Reply) → y ≡ replyOf a → out′ ≡ putReply out y → n ≡ numberOf y
-    → told out′ n ≡ answered out a
+pub tells : (out out′ : List ℕ) (a : Answer) (n : ℕ) (y : Reply) → y ≡ replyOf a → out′ ≡ putReply out y
+    → n ≡ numberOf y → told out′ n ≡ answered out a
 tells out out′ a n y e h i = rw (i, h, e)
 
 pub keeps : (ws a b : List ℕ) (who : ℕ) (c : Counters) (s : Session) (w : Words) → w ≡ encode s → a ≡ putCounters ws c

@@ -1,8 +1,10 @@
 -- The calls for other programs: what each leaves in the lent slices, and the number that it returns.
--- In order: the slices' lengths; a refusal; fresh (7); start (7, 1, 8, then 2, 3, 4 by the register); step (7, 1, 8, then
--- 5 and 8 by the register). `z` is the size, `ns` and `es` are the tables, `ws` the counters' and records' words, `out`
--- the answer's. A refusal changes nothing but the answer (proofs/Kept.antt); an answer of another length than 3 stays.
--- Not here: listings (crate exchange), the register's calls (crate register), where words lie (crate packing). Assumes nothing.
+-- In order: the slices' lengths; a refusal; fresh (7); start (7, 1, 8, then 2, 3, 4 by the register); step (7, 1, 8,
+-- then 5 and 8 by the register). `z` is the size, `ns` and `es` are the tables, `ws` the counters' and records'
+-- words, `out` the answer's. A refusal changes nothing but the answer (proofs/Kept.antt); an answer of another length
+-- than 3 stays.
+-- Not here: listings (crate exchange), the register's calls (crate register), where words lie (crate packing).
+-- Assumes nothing.
 use Prim.Native.Nat.{ℕ}
 use mathlib.Core.List.{List}
 use mathlib.Core.Bool.{Bool, cond, _&&_}
@@ -72,7 +74,8 @@ deaf ws out number = heard ws (putReply out (refusedBy number)) number
 
 abbrev pub afterStart : List ℕ → List ℕ → ℕ → Started → Heard
 afterStart ws out who r =
-    heard (putRecord ws who (encode (r .session))) (putReply out (replyOf (r .answer))) (numberOf (replyOf (r .answer)))
+    heard (putRecord ws who (encode (r .session))) (putReply out (replyOf (r .answer)))
+    (numberOf (replyOf (r .answer)))
 
 unfoldable pub startRecord : Size → List ℕ → List ℕ → List ℕ → List ℕ → ℕ → Op → Session → Heard
 startRecord z ns es ws out who op s = afterStart ws out who (startOf z ns es who s op)

@@ -14,7 +14,8 @@ use Rattle.encoding.specs.declared.PhaseWords.{PhaseWords}
 use Rattle.encoding.specs.declared.Words.{Words}
 use Rattle.encoding.specs.Encoding.{kindWith, phaseWith}
 use Rattle.packing.specs.declared.Reply.{Reply}
-use Rattle.packing.specs.Packing.{countersAt, recordAt, putCounters, putOp, putFront, putBack, putRecord, freshWords}
+use Rattle.packing.specs.Packing.{countersAt, recordAt, putCounters, putOp, putFront, putBack, putRecord}
+use Rattle.packing.specs.Packing.{freshWords}
 use Rattle.packing.specs.Packing.{replyWith, refusedBy, replyOf, numberOf, putReply}
 
 -- ---- words read

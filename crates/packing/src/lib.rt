@@ -1,7 +1,7 @@
 // The counters, the sixteen records and an answer in lent slices of words.
-// In order: what is answered; counters; one session's record; a fresh register's words; answers. Words 0 to 2 are nodes
-// used, entries used and the stamp; session s has words 3 + 9 s to 11 + 9 s (crate encoding says which). An answer is
-// three words: its name and its two values. Everything is total: what lies past a slice's end reads as 0.
+// In order: what is answered; counters; one session's record; a fresh register's words; answers. Words 0 to 2 are
+// nodes used, entries used and the stamp; session s has words 3 + 9 s to 11 + 9 s (crate encoding says which). An
+// answer is three words: its name and its two values. Everything is total: what lies past a slice's end reads as 0.
 // Not here: the lengths that a call asks for (crate ffi). Assumes nothing.
 ghost use mathlib.Core.Path.{_≡_};
 ghost use Rattle.terms.specs.Terms.{refusalNumber};
