@@ -1,5 +1,4 @@
--- The round trip: a record's words decode to that record, decoded words encode back to themselves, and malformed
--- words
+-- The round trip: a record's words decode to that record, decoded words encode back to themselves, and malformed words
 -- are no record's.
 -- In order: words that test as the same are the same; the record that a record's words stand for; the three laws.
 -- Assumes nothing.

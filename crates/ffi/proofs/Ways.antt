@@ -1,6 +1,6 @@
 -- Each way out of the calls for other programs, over plain values.
 -- In order: lengths; a refusal; fresh; start; step. Assumes nothing.
-use Prim.Native.Nat.{ℕ, _≤_, _<_, _%_}
+use Prim.Native.Nat.{ℕ, _≤_, _<_}
 use mathlib.Core.Path.{_≡_, ap, _∙_}
 use mathlib.Core.List.{List}
 use mathlib.Core.Bool.{Bool, true, false}
@@ -15,24 +15,19 @@ use Rattle.terms.specs.declared.Answer.{Answer}
 use Rattle.terms.specs.declared.Refusal.{Refusal}
 use Rattle.steps.specs.declared.Session.{Session}
 use Rattle.steps.specs.declared.Stepped.{Stepped}
-use Rattle.steps.specs.Steps.{Done, done, tables}
+use Rattle.steps.specs.Steps.{Done, done}
 use Rattle.register.specs.declared.Started.{Started}
 use Rattle.register.specs.declared.Opened.{Opened}
 use Rattle.register.specs.Register.{fits, opened, freshOf, startOf, stepOf}
-use Rattle.listing.specs.Listing.{done as listed, writeOf}
-use Rattle.listing.specs.declared.Written.{Written}
-use Rattle.loading.specs.Loading.{done as loads, loadOf}
-use Rattle.loading.specs.declared.Loaded.{Loaded}
 use Rattle.encoding.specs.declared.Words.{Words}
 use Rattle.encoding.specs.declared.Decoded.{Decoded}
 use Rattle.encoding.specs.Encoding.{encode, opFrom, decode}
 use Rattle.packing.specs.declared.Reply.{Reply}
 use Rattle.packing.specs.Packing.{countersAt, putCounters, recordAt, putRecord, freshWords, refusedBy, replyOf}
-use Rattle.packing.specs.Packing.{replyWith, numberOf, putReply}
-use Rattle.ffi.specs.Ffi.{lengthsFit, told, refusal, answered, kept, cleared, freshCall, Heard, heard}
-use Rattle.ffi.specs.Ffi.{startRecord, startSession, startCall, Left, left, stepRecord, stepSession, stepCall}
-use Rattle.ffi.specs.Ffi.{given, writtenReply, wrote, writeCall, loadedReply, loadedWords, readLoaded}
-use Rattle.ffi.specs.Ffi.{readCall}
+use Rattle.packing.specs.Packing.{numberOf, putReply}
+use Rattle.exchange.specs.Exchange.{told, Left, left}
+use Rattle.ffi.specs.Ffi.{lengthsFit, refusal, answered, kept, cleared, freshCall, Heard, heard}
+use Rattle.ffi.specs.Ffi.{startRecord, startSession, startCall, stepRecord, stepSession, stepCall}
 
 -- ---- lengths
 module _ (ns es ws : List ℕ) where
@@ -56,8 +51,7 @@ pub refuses : (out out′ : List ℕ) (n : ℕ) (r : Reply) → r ≡ refusedBy 
 refuses out out′ n r e h = rw (h, e)
 
 pub tells : (out out′ : List ℕ) (a : Answer) (n : ℕ) (y : Reply) → y ≡ replyOf a → out′ ≡ putReply out y
-    → n ≡ numberOf y
-    → told out′ n ≡ answered out a
+    → n ≡ numberOf y → told out′ n ≡ answered out a
 tells out out′ a n y e h i = rw (i, h, e)
 
 pub keeps : (ws a b : List ℕ) (who : ℕ) (c : Counters) (s : Session) (w : Words) → w ≡ encode s → a ≡ putCounters ws c
@@ -169,68 +163,3 @@ module _ (z : Size) (ns es ws out : List ℕ) (who : ℕ) where
 pub ruleset step-sessions = (steps-decoded, steps-malformed)
 
 pub ruleset steps = (step-silent, step-lengths, step-session, step-goes)
-
--- ---- writing a listing
-module _ (w : Written) where
-  pub written-length : (n : ℕ) → w ≡ Written.Length n → replyWith 10 (n % 4294967296) 0 ≡ writtenReply w
-  written-length n e = rw e
-
-  pub written-no-room : (y : Reply) → w ≡ Written.NoRoom → y ≡ refusedBy 11 → y ≡ writtenReply w
-  written-no-room y e h = rw (e, h)
-
-  pub written-bad-pairs : (y : Reply) → w ≡ Written.BadPairs → y ≡ refusedBy 12 → y ≡ writtenReply w
-  written-bad-pairs y e h = rw (e, h)
-
-pub ruleset written = (written-length, written-no-room, written-bad-pairs)
-
-module _ (most stamp : ℕ) (ks vs out answer : List ℕ) where
-  pub write-silent : (length answer ≡ 3 → ⊥) → wrote out answer 7 ≡ writeCall most stamp ks vs out answer
-  unfolding writeCall
-  write-silent h = rw (ne-eqb _ _ h)
-
-  pub write-goes : (out′ answer′ : List ℕ) (w : Written) (y : Reply) (n : ℕ) → length answer ≡ 3
-      → listed out′ w ≡ writeOf most stamp ks vs out → y ≡ writtenReply w → told answer′ n ≡ given answer y
-      → wrote out′ answer′ n ≡ writeCall most stamp ks vs out answer
-  unfolding writeCall
-  write-goes out′ answer′ w y n three call e h = rw (eq-eqb _ _ three, ← call, ← e) (cc)
-
--- ---- reading a listing
-module _ (l : Loaded) where
-  pub loaded-register : (c : Counters) → l ≡ Loaded.Register c → replyWith 11 (c .stamp) 0 ≡ loadedReply l
-  loaded-register c e = rw e
-
-  pub loaded-bad-table : (y : Reply) → l ≡ Loaded.BadTable → y ≡ refusedBy 7 → y ≡ loadedReply l
-  loaded-bad-table y e h = rw (e, h)
-
-  pub loaded-bad-listing : (p : ℕ) → l ≡ Loaded.BadListing p → replyWith 0 9 (p % 4294967296) ≡ loadedReply l
-  loaded-bad-listing p e = rw e
-
-  pub loaded-too-many : (y : Reply) → l ≡ Loaded.TooMany → y ≡ refusedBy 10 → y ≡ loadedReply l
-  loaded-too-many y e h = rw (e, h)
-
-  pub words-register : (ws : List ℕ) (c : Counters) (ws′ : List ℕ) → l ≡ Loaded.Register c → ws′ ≡ freshWords ws c
-      → ws′ ≡ loadedWords ws l
-  words-register ws c ws′ e h = rw (e, h)
-
-pub ruleset loaded = (loaded-register, loaded-bad-table, loaded-bad-listing, loaded-too-many)
-
-module _ (z : Size) (input ns es ws out : List ℕ) where
-  pub reads-loaded : (ns′ es′ ws′ out′ : List ℕ) (l : Loaded) (y : Reply) (n : ℕ)
-      → loads (tables ns′ es′) l ≡ loadOf z input ns es → ws′ ≡ loadedWords ws l → y ≡ loadedReply l
-      → told out′ n ≡ given out y → left ns′ es′ ws′ out′ n ≡ readLoaded z input ns es ws out
-  unfolding readLoaded
-  reads-loaded ns′ es′ ws′ out′ l y n call h e i = rw (← call, h, ← e) (cc)
-
-  pub read-silent : (length out ≡ 3 → ⊥) → left ns es ws out 7 ≡ readCall z input ns es ws out
-  unfolding readCall
-  read-silent h = rw (ne-eqb _ _ h)
-
-  pub read-words : (out′ : List ℕ) (n : ℕ) → length out ≡ 3 → (length ws ≡ 147 → ⊥) → told out′ n ≡ refusal out 7
-      → left ns es ws out′ n ≡ readCall z input ns es ws out
-  unfolding readCall
-  read-words out′ n three h e = rw (eq-eqb _ _ three, ne-eqb _ _ h) (cc)
-
-  pub read-goes : (t : Left) → length out ≡ 3 → length ws ≡ 147 → t ≡ readLoaded z input ns es ws out
-      → t ≡ readCall z input ns es ws out
-  unfolding readCall
-  read-goes t three h e = rw (eq-eqb _ _ three, eq-eqb _ _ h, e)

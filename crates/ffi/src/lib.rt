@@ -1,15 +1,14 @@
 // The register for other programs (C, Rust): fresh, start, step and listings, over lent slices.
 // In order: the slices' lengths; answering; fresh; start; step; writing and reading a listing. `words` are 147: the
-// counters and sixteen records (crate
-// packing); `answer` is 3: the answer's name and values. Each call returns 0 or a refusal's number; a refusal changes
-// nothing but the answer; where the answer has another length than 3, nothing at all is written. No call has a
-// `requires`: wrong lengths are refused 7, words that are no record's 8. include/ravencrumb.h declares the calls.
+// counters and sixteen records (crate packing); `answer` is 3: the answer's name and values. Each call returns 0 or a
+// refusal's number; a refusal changes nothing but the answer; where the answer has another length than 3, nothing at
+// all is written. No call has a `requires`: wrong lengths are refused 7, words that are no record's 8.
+// include/ravencrumb.h declares the calls.
 // Not here: what the calls mean (crate register). Assumes nothing.
 ghost use mathlib.Core.Path.{_≡_};
 ghost use Rattle.terms.specs.Terms.{small};
 ghost use Rattle.ffi.specs.Ffi.{
   lengthsFit,
-  told,
   refusal,
   answered,
   kept,
@@ -19,24 +18,13 @@ ghost use Rattle.ffi.specs.Ffi.{
   startRecord,
   startSession,
   startCall,
-  left,
   stepRecord,
   stepSession,
   stepCall,
-  given,
-  writtenReply,
-  wrote,
-  writeCall,
-  loadedReply,
-  loadedWords,
-  readLoaded,
-  readCall,
 };
 ghost use Rattle.listing.specs.Listing.{keyRoom};
+ghost use Rattle.exchange.specs.Exchange.{told, left, wrote, writeCall, readCall};
 use encoding::Decoded;
-use listing::Written;
-use loading::Loaded;
-use packing::Reply;
 use register::Opened;
 use steps::Session;
 use terms::Answer;
@@ -232,29 +220,6 @@ pub extern "C" fn ravencrumb_step(
     7
 }
 
-// Puts a reply, and returns what the call returns.
-fn give(answer: &mut [u32], reply: Reply) -> u32
-    ensures { λ r. ⌜ told (now (answer .exit)) r ≡ given (now (answer .entry)) reply ⌝ }
-{
-    packing::put_reply(answer, reply);
-    packing::number_in(reply)
-}
-
-// A length as a word: no listing is that long that it would not fit.
-fn written_reply(w: Written) -> Reply
-    ensures { λ r. ⌜ r ≡ writtenReply w ⌝ }
-{
-    match w {
-        Written::Length(n) => Reply {
-            name: 10,
-            first: (n % 4294967296) as u32,
-            second: 0,
-        },
-        Written::NoRoom => packing::refused(11),
-        Written::BadPairs => packing::refused(12),
-    }
-}
-
 #[no_mangle]
 pub extern "C" fn ravencrumb_write(
     stamp: u32,
@@ -264,73 +229,10 @@ pub extern "C" fn ravencrumb_write(
     answer: &mut [u32],
 ) -> u32
     ensures { λ r. ⌜ wrote (now (out .exit)) (now (answer .exit)) r
-        ≡ writeCall keyRoom stamp (now (keys .entry)) (now (values .entry)) (now (out .entry)) (now (answer .entry))
-        ⌝ }
-{
-    if answer.len() == 3 {
-        let w = listing::write(stamp, keys, values, out);
-        let reply = written_reply(w);
-        return give(answer, reply);
-    }
-    7
-}
-
-// An offset is a word too: it is at most the length of the longest listing.
-fn loaded_reply(l: Loaded) -> Reply
-    ensures { λ r. ⌜ r ≡ loadedReply l ⌝ }
-{
-    match l {
-        Loaded::Register(c) => Reply {
-            name: 11,
-            first: c.stamp,
-            second: 0,
-        },
-        Loaded::BadTable => packing::refused(7),
-        Loaded::BadListing(offset) => Reply {
-            name: 0,
-            first: 9,
-            second: (offset % 4294967296) as u32,
-        },
-        Loaded::TooMany => packing::refused(10),
-    }
-}
-
-// The loaded register's counters, and all sessions idle; a refusal changes nothing.
-fn put_loaded(words: &mut [u32], l: Loaded)
-    ensures { λ _. ⌜ now (words .exit) ≡ loadedWords (now (words .entry)) l ⌝ }
-{
-    match l {
-        Loaded::Register(c) => {
-            packing::fresh_words(words, c);
-            return;
-        }
-        Loaded::BadTable => {
-            return;
-        }
-        Loaded::BadListing(_) => {
-            return;
-        }
-        Loaded::TooMany => {
-            return;
-        }
-    }
-}
-
-fn read_loaded(
-    input: &[u8],
-    nodes: &mut [u32],
-    entries: &mut [u32],
-    words: &mut [u32],
-    answer: &mut [u32],
-) -> u32
-    ensures { λ r. ⌜ left (now (nodes .exit)) (now (entries .exit)) (now (words .exit)) (now (answer .exit)) r
-        ≡ readLoaded small (now (input .entry)) (now (nodes .entry)) (now (entries .entry)) (now (words .entry))
+        ≡ writeCall keyRoom stamp (now (keys .entry)) (now (values .entry)) (now (out .entry))
         (now (answer .entry)) ⌝ }
 {
-    let l = loading::load(input, nodes, entries);
-    put_loaded(words, l);
-    let reply = loaded_reply(l);
-    give(answer, reply)
+    exchange::write_listing(stamp, keys, values, out, answer)
 }
 
 #[no_mangle]
@@ -345,11 +247,5 @@ pub extern "C" fn ravencrumb_read(
         ≡ readCall small (now (input .entry)) (now (nodes .entry)) (now (entries .entry)) (now (words .entry))
         (now (answer .entry)) ⌝ }
 {
-    if answer.len() == 3 {
-        if words.len() == 147 {
-            return read_loaded(input, nodes, entries, words, answer);
-        }
-        return refuse(answer, 7);
-    }
-    7
+    exchange::read_listing(input, nodes, entries, words, answer)
 }

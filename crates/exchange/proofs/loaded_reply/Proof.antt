@@ -1,8 +1,8 @@
--- `ffi::loaded_reply` meets its contract: each way out is a law of proofs/Ways.antt. Assumes nothing.
-use Rattle.ffi.proofs.Ways.{loaded}
+-- `exchange::loaded_reply` meets its contract: each way out is a law of proofs/Ways.antt. Assumes nothing.
+use Rattle.exchange.proofs.Ways.{loaded}
 use borrow.Author.Needs.{needs}
-use Rattle.ffi.proofs.loaded_reply.Statement.{statement}
-use Rattle.ffi.proofs.loaded_reply.Tie as tie
+use Rattle.exchange.proofs.loaded_reply.Statement.{statement}
+use Rattle.exchange.proofs.loaded_reply.Tie as tie
 
 pub loaded-reply-spec : {M : Type 1} → statement M
 loaded-reply-spec =

@@ -1,8 +1,8 @@
--- `ffi::put_loaded` meets its contract: each way out is a law of proofs/Ways.antt. Assumes nothing.
-use Rattle.ffi.proofs.Ways.{words-register}
+-- `exchange::put_loaded` meets its contract: each way out is a law of proofs/Ways.antt. Assumes nothing.
+use Rattle.exchange.proofs.Ways.{words-register}
 use borrow.Author.Needs.{needs}
-use Rattle.ffi.proofs.put_loaded.Statement.{statement}
-use Rattle.ffi.proofs.put_loaded.Tie as tie
+use Rattle.exchange.proofs.put_loaded.Statement.{statement}
+use Rattle.exchange.proofs.put_loaded.Tie as tie
 
 pub put-loaded-spec : {M : Type 1} → statement M
 put-loaded-spec =

@@ -1,8 +1,8 @@
--- `ffi::read_loaded` meets its contract: each way out is a law of proofs/Ways.antt. Assumes nothing.
-use Rattle.ffi.proofs.Ways.{reads-loaded}
+-- `exchange::read_loaded` meets its contract: each way out is a law of proofs/Ways.antt. Assumes nothing.
+use Rattle.exchange.proofs.Ways.{reads-loaded}
 use borrow.Author.Needs.{needs}
-use Rattle.ffi.proofs.read_loaded.Statement.{statement}
-use Rattle.ffi.proofs.read_loaded.Tie as tie
+use Rattle.exchange.proofs.read_loaded.Statement.{statement}
+use Rattle.exchange.proofs.read_loaded.Tie as tie
 
 pub read-loaded-spec : {M : Type 1} → statement M
 read-loaded-spec =

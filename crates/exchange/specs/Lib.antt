@@ -1,0 +1,2 @@
+-- Listings for other programs.
+pub mod Exchange
