@@ -1,0 +1,2 @@
+-- Each way out of the steps in a row.
+pub mod Ways

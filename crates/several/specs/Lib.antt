@@ -1,0 +1,2 @@
+-- Several steps of one session in one call.
+pub mod Several
