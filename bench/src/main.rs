@@ -13,7 +13,8 @@ fn main() {
     let name = args.next().unwrap_or_default();
     let (passes, lives) = sizes(args);
     match name.as_str() {
-        "ravencrumb" => run(&name, &mut ravencrumb::Lent::default(), passes, lives),
+        "ravencrumb" => run(&name, &mut ravencrumb::Many::default(), passes, lives),
+        "stepwise" => run(&name, &mut ravencrumb::Single::default(), passes, lives),
         "twin" => run(&name, &mut twin::Twin::default(), passes, lives),
         "sorted" => run(&name, &mut sorted::Sorted::default(), passes, lives),
         #[cfg(feature = "lmdb")]

@@ -27,6 +27,10 @@ use Rattle.packing.specs.Packing.{countersAt, putCounters, recordAt, putRecord,
 use Rattle.packing.specs.Packing.{numberOf, putReply}
 use Rattle.exchange.specs.Exchange.{told, Left, left}
 use Rattle.ffi.specs.Ffi.{lengthsFit, refusal, answered, kept, cleared, freshCall, Heard, heard}
+use Rattle.ffi.specs.Ffi.{Strode, strode, tally, stepsRecord, stepsSession, stepsCall}
+use Rattle.table.specs.Table.{storeOf}
+use Rattle.several.specs.declared.Went.{Went}
+use Rattle.several.specs.Several.{gone, severalOf}
 use Rattle.ffi.specs.Ffi.{startRecord, startSession, startCall, stepRecord, stepSession, stepCall}
 
 -- ---- lengths
@@ -163,3 +167,62 @@ module _ (z : Size) (ns es ws out : List ℕ) (who : ℕ) where
 pub ruleset step-sessions = (steps-decoded, steps-malformed)
 
 pub ruleset steps = (step-silent, step-lengths, step-session, step-goes)
+
+-- ---- several steps
+pub counts-up : (out a b : List ℕ) (n count made : ℕ) → a ≡ storeOf 5 out 0 3 count → b ≡ storeOf 5 a 0 4 made
+    → told b n ≡ told (tally out count made) n
+counts-up out a b n count made e f = rw (f, e)
+
+pub stands-still : (out a b : List ℕ) (n m k : ℕ) → told a m ≡ refusal out n → told b k ≡ told (tally a 0 0) m
+    → told b k ≡ told (tally (putReply out (refusedBy n)) 0 0) n
+stands-still out a b n m k e f =
+    let g : a ≡ putReply out (refusedBy n) = cc in
+    let h : m ≡ n = cc in
+    f ∙ rw (g, h)
+
+module _ (z : Size) (ns es ws ps out : List ℕ) (who limit : ℕ) where
+  pub strides-record : (s : Session) (c : Counters) (r : Went) (ns′ es′ ws′ ps′ out₁ out₂ : List ℕ) (m n : ℕ)
+      → c ≡ countersAt ws → gone ns′ es′ ps′ r ≡ severalOf z ns es ps c who s limit
+      → ws′ ≡ kept ws who (r .last .counters) (r .last .session) → told out₁ m ≡ answered out (r .last .answer)
+      → told out₂ n ≡ told (tally out₁ (r .last .count) (r .made)) m
+      → strode ns′ es′ ws′ ps′ out₂ n ≡ stepsRecord z ns es ws ps out who limit s
+  unfolding stepsRecord
+  strides-record s c r ns′ es′ ws′ ps′ out₁ out₂ m n k call h i j =
+      let f : out₁ ≡ putReply out (replyOf (r .last .answer)) = cc in
+      rw (← k, ← call, h, ← f) (cc)
+
+  module _ (w : Words) (d : Decoded) (words : w ≡ recordAt ws who) (read : d ≡ decode w) where
+    pub strides-decoded : (s : Session) (t : Strode) → d ≡ Decoded.Record s
+        → t ≡ stepsRecord z ns es ws ps out who limit s → t ≡ stepsSession z ns es ws ps out who limit
+    unfolding stepsSession
+    strides-decoded s t e h = rw (← words, ← read, e, h)
+
+    pub strides-malformed : (out′ : List ℕ) (n : ℕ) → d ≡ Decoded.Malformed
+        → told out′ n ≡ told (tally (putReply out (refusedBy 8)) 0 0) 8
+        → strode ns es ws ps out′ n ≡ stepsSession z ns es ws ps out who limit
+    unfolding stepsSession
+    strides-malformed out′ n e h = rw (← words, ← read, e) (cc)
+
+  pub strides-silent : (length out ≡ 5 → ⊥) → strode ns es ws ps out 7 ≡ stepsCall z ns es ws ps out who limit
+  unfolding stepsCall
+  strides-silent h = rw (ne-eqb _ _ h)
+
+  module _ (b : Bool) (five : length out ≡ 5) (test : b ≡ lengthsFit z ns es ws) where
+    pub strides-lengths : (out′ : List ℕ) (n : ℕ) → b ≡ false
+        → told out′ n ≡ told (tally (putReply out (refusedBy 7)) 0 0) 7
+        → strode ns es ws ps out′ n ≡ stepsCall z ns es ws ps out who limit
+    unfolding stepsCall
+    strides-lengths out′ n h e = rw (eq-eqb _ _ five, ← test, h) (cc)
+
+    pub strides-session : (out′ : List ℕ) (n : ℕ) → b ≡ true → 16 ≤ who
+        → told out′ n ≡ told (tally (putReply out (refusedBy 1)) 0 0) 1
+        → strode ns es ws ps out′ n ≡ stepsCall z ns es ws ps out who limit
+    unfolding stepsCall
+    strides-session out′ n h past e = rw (eq-eqb _ _ five, ← test, h, le-ltb _ _ past) (cc)
+
+    pub strides-go : (t : Strode) → b ≡ true → who < 16 → t ≡ stepsSession z ns es ws ps out who limit
+        → t ≡ stepsCall z ns es ws ps out who limit
+    unfolding stepsCall
+    strides-go t h known e = rw (eq-eqb _ _ five, ← test, h, lt-ltb _ _ known, e)
+
+pub ruleset stride-sessions = (strides-decoded, strides-malformed)

@@ -1,6 +1,6 @@
 -- The calls for other programs: what each leaves in the lent slices, and the number that it returns.
 -- In order: the slices' lengths; a refusal; fresh (7); start (7, 1, 8, then 2, 3, 4 by the register); step (7, 1, 8,
--- then 5 and 8 by the register). `z` is the size, `ns` and `es` are the tables, `ws` the counters' and records'
+-- then 5 and 8 by the register); several steps (the same). `z` is the size, `ns` and `es` are the tables, `ws` the counters' and records'
 -- words, `out` the answer's. A refusal changes nothing but the answer (proofs/Kept.antt); an answer of another length
 -- than 3 stays.
 -- Not here: listings (crate exchange), the register's calls (crate register), where words lie (crate packing).
@@ -17,6 +17,9 @@ use Rattle.terms.specs.declared.Op.{Op}
 use Rattle.terms.specs.declared.Answer.{Answer}
 use Rattle.steps.specs.declared.Session.{Session}
 use Rattle.steps.specs.Steps.{Done, done}
+use Rattle.table.specs.Table.{storeOf}
+use Rattle.several.specs.declared.Went.{Went}
+use Rattle.several.specs.Several.{Gone, gone, severalOf}
 use Rattle.register.specs.declared.Started.{Started}
 use Rattle.register.specs.declared.Opened.{Opened}
 use Rattle.register.specs.Register.{fits, Fresh, opened, freshOf, startOf, stepOf}
@@ -32,10 +35,10 @@ use Rattle.packing.specs.Packing.{numberOf, putReply}
 unfoldable pub lengthsFit : Size → List ℕ → List ℕ → List ℕ → Bool
 lengthsFit z ns es ws = fits z ns es && eqb (length ws) wordsRoom
 
--- what start and step check first, in this order: an answer of another length stays as it is; 7; 1
-abbrev pub checked : {A : Type 0} → Size → List ℕ → List ℕ → List ℕ → List ℕ → ℕ → A → (ℕ → A) → A → A
-checked z ns es ws out who silent refused goes =
-    cond (eqb (length out) 3) (cond (lengthsFit z ns es ws) (cond (ltb who 16) goes (refused 1)) (refused 7)) silent
+-- what start, step and steps check first, in this order: an answer of another length stays as it is; 7; 1
+abbrev pub checked : {A : Type 0} → ℕ → Size → List ℕ → List ℕ → List ℕ → List ℕ → ℕ → A → (ℕ → A) → A → A
+checked room z ns es ws out who silent refused goes =
+    cond (eqb (length out) room) (cond (lengthsFit z ns es ws) (cond (ltb who 16) goes (refused 1)) (refused 7)) silent
 
 -- then, words that are no record's
 abbrev pub onDecoded : {A : Type 0} → Decoded → (Session → A) → A → A
@@ -87,7 +90,7 @@ startSession z ns es ws out who op =
 -- the operation by its kind (crate encoding); another kind names no key, which the register refuses 3
 unfoldable pub startCall : Size → List ℕ → List ℕ → List ℕ → List ℕ → ℕ → ℕ → ℕ → ℕ → Heard
 startCall z ns es ws out who kind first second =
-    checked z ns es ws out who (heard ws out 7) (deaf ws out)
+    checked 3 z ns es ws out who (heard ws out 7) (deaf ws out)
     (startSession z ns es ws out who (opFrom kind first second))
 
 -- ---- step: both tables, the words, the answer and the number returned
@@ -105,4 +108,34 @@ stepSession z ns es ws out who =
 
 unfoldable pub stepCall : Size → List ℕ → List ℕ → List ℕ → List ℕ → ℕ → Left
 stepCall z ns es ws out who =
-    checked z ns es ws out who (left ns es ws out 7) (stays ns es ws out) (stepSession z ns es ws out who)
+    checked 3 z ns es ws out who (left ns es ws out 7) (stays ns es ws out) (stepSession z ns es ws out who)
+
+-- ---- several steps: the tables, the words, the pairs, the answer and the number returned. The answer has two words
+-- more: how many pairs are filled, and how many steps were made
+pub data Strode : Type 0 where
+  strode : List ℕ → List ℕ → List ℕ → List ℕ → List ℕ → ℕ → Strode
+
+abbrev pub tally : List ℕ → ℕ → ℕ → List ℕ
+tally out count made = storeOf 5 (storeOf 5 out 0 3 count) 0 4 made
+
+abbrev pub standsStill : List ℕ → List ℕ → List ℕ → List ℕ → List ℕ → ℕ → Strode
+standsStill ns es ws ps out number = strode ns es ws ps (tally (putReply out (refusedBy number)) 0 0) number
+
+abbrev pub afterSteps : List ℕ → List ℕ → ℕ → Gone → Strode
+afterSteps ws out who (gone ns es ps r) =
+    strode ns es (kept ws who (r .last .counters) (r .last .session)) ps
+    (tally (putReply out (replyOf (r .last .answer))) (r .last .count) (r .made))
+    (numberOf (replyOf (r .last .answer)))
+
+unfoldable pub stepsRecord : Size → List ℕ → List ℕ → List ℕ → List ℕ → List ℕ → ℕ → ℕ → Session → Strode
+stepsRecord z ns es ws ps out who limit s =
+    afterSteps ws out who (severalOf z ns es ps (countersAt ws) who s limit)
+
+unfoldable pub stepsSession : Size → List ℕ → List ℕ → List ℕ → List ℕ → List ℕ → ℕ → ℕ → Strode
+stepsSession z ns es ws ps out who limit =
+    onDecoded (decode (recordAt ws who)) (stepsRecord z ns es ws ps out who limit) (standsStill ns es ws ps out 8)
+
+unfoldable pub stepsCall : Size → List ℕ → List ℕ → List ℕ → List ℕ → List ℕ → ℕ → ℕ → Strode
+stepsCall z ns es ws ps out who limit =
+    checked 5 z ns es ws out who (strode ns es ws ps out 7) (standsStill ns es ws ps out)
+    (stepsSession z ns es ws ps out who limit)

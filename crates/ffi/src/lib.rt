@@ -21,7 +21,13 @@ ghost use Rattle.ffi.specs.Ffi.{
   stepRecord,
   stepSession,
   stepCall,
+  tally,
+  strode,
+  stepsRecord,
+  stepsSession,
+  stepsCall,
 };
+ghost use Rattle.packing.specs.Packing.{refusedBy, putReply};
 ghost use Rattle.listing.specs.Listing.{keyRoom};
 ghost use Rattle.exchange.specs.Exchange.{told, left, wrote, writeCall, readCall};
 use encoding::Decoded;
@@ -216,6 +222,99 @@ pub extern "C" fn ravencrumb_step(
             return step_session(nodes, entries, words, answer, who);
         }
         return refuse(answer, 7);
+    }
+    7
+}
+
+// Puts how many pairs are filled and how many steps were made behind an answer, and returns what the call returns.
+fn count_up(answer: &mut [u32], number: u32, count: u32, made: u32) -> u32
+    ensures { λ r. ⌜ told (now (answer .exit)) r ≡ told (tally (now (answer .entry)) count made) number ⌝ }
+{
+    table::store(answer, 5, 0, 3, count);
+    table::store(answer, 5, 0, 4, made);
+    number
+}
+
+fn stand_still(answer: &mut [u32], number: u32) -> u32
+    ensures { λ r. ⌜ told (now (answer .exit)) r
+        ≡ told (tally (putReply (now (answer .entry)) (refusedBy number)) 0 0) number ⌝ }
+{
+    let n = refuse(answer, number);
+    count_up(answer, n, 0, 0)
+}
+
+fn steps_record(
+    nodes: &mut [u32],
+    entries: &mut [u32],
+    words: &mut [u32],
+    pairs: &mut [u32],
+    answer: &mut [u32],
+    who: u32,
+    limit: u32,
+    s: Session,
+) -> u32
+    ensures { λ r. ⌜ strode (now (nodes .exit)) (now (entries .exit)) (now (words .exit)) (now (pairs .exit))
+        (now (answer .exit)) r
+        ≡ stepsRecord small (now (nodes .entry)) (now (entries .entry)) (now (words .entry)) (now (pairs .entry))
+        (now (answer .entry)) who limit s ⌝ }
+{
+    let c = packing::counters_at(words);
+    let out = several::steps(nodes, entries, pairs, c, who, s, limit);
+    let last = out.last;
+    let counters = last.counters;
+    let session = last.session;
+    let given = last.answer;
+    keep(words, who, counters, session);
+    let n = tell(answer, given);
+    count_up(answer, n, last.count, out.made)
+}
+
+fn steps_session(
+    nodes: &mut [u32],
+    entries: &mut [u32],
+    words: &mut [u32],
+    pairs: &mut [u32],
+    answer: &mut [u32],
+    who: u32,
+    limit: u32,
+) -> u32
+    ensures { λ r. ⌜ strode (now (nodes .exit)) (now (entries .exit)) (now (words .exit)) (now (pairs .exit))
+        (now (answer .exit)) r
+        ≡ stepsSession small (now (nodes .entry)) (now (entries .entry)) (now (words .entry)) (now (pairs .entry))
+        (now (answer .entry)) who limit ⌝ }
+{
+    let w = packing::record_at(words, who);
+    match encoding::decode_words(w) {
+        Decoded::Record(s) => steps_record(nodes, entries, words, pairs, answer, who, limit, s),
+        Decoded::Malformed => stand_still(answer, 8),
+    }
+}
+
+// Steps of one session: see crate several for when it ends. Key i handed out is word 2 i of `pairs`, its value the
+// next.
+#[no_mangle]
+pub extern "C" fn ravencrumb_steps(
+    nodes: &mut [u32],
+    entries: &mut [u32],
+    words: &mut [u32],
+    pairs: &mut [u32],
+    answer: &mut [u32],
+    who: u32,
+    limit: u32,
+) -> u32
+    ensures { λ r. ⌜ strode (now (nodes .exit)) (now (entries .exit)) (now (words .exit)) (now (pairs .exit))
+        (now (answer .exit)) r
+        ≡ stepsCall small (now (nodes .entry)) (now (entries .entry)) (now (words .entry)) (now (pairs .entry))
+        (now (answer .entry)) who limit ⌝ }
+{
+    if answer.len() == 5 {
+        if right_lengths(nodes, entries, words) {
+            if 16 <= who {
+                return stand_still(answer, 1);
+            }
+            return steps_session(nodes, entries, words, pairs, answer, who, limit);
+        }
+        return stand_still(answer, 7);
     }
     7
 }
