@@ -16,7 +16,6 @@ use nodes::NEWEST;
 use nodes::NEXT;
 use scanning::Reading;
 use terms::Counters;
-use terms::Size;
 
 // The counters of the register that was loaded, or a refusal: 7, 9 with its offset, or 10.
 pub enum Loaded {
@@ -163,15 +162,6 @@ fn load_into(input: &[u8], nodes: &mut [u32], entries: &mut [u32]) -> Loaded
     }
 }
 
-fn right_lengths(z: Size, nodes: &[u32], entries: &[u32]) -> bool
-    ensures { λ r. ⌜ r ≡ fits z (now (nodes .entry)) (now (entries .entry)) ⌝ }
-{
-    if nodes.len() == z.nodes as usize * 6 {
-        return entries.len() == z.entries as usize * 4;
-    }
-    false
-}
-
 // Reads a listing into the two tables, which then hold what a fresh register holds after inserting the keys in order.
 // A refusal changes nothing.
 pub fn load(input: &[u8], nodes: &mut [u32], entries: &mut [u32]) -> Loaded
@@ -181,7 +171,7 @@ pub fn load(input: &[u8], nodes: &mut [u32], entries: &mut [u32]) -> Loaded
         ⌝ }
 {
     let z = terms::small_size();
-    if right_lengths(z, nodes, entries) {
+    if register::right_lengths(z, nodes, entries) {
         return load_into(input, nodes, entries);
     }
     Loaded::BadTable

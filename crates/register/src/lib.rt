@@ -42,7 +42,7 @@ pub enum Opened {
     Refused(Refusal),
 }
 
-fn right_lengths(z: Size, nodes: &[u32], entries: &[u32]) -> bool
+pub fn right_lengths(z: Size, nodes: &[u32], entries: &[u32]) -> bool
     ensures { λ r. ⌜ r ≡ fits z (now (nodes .entry)) (now (entries .entry)) ⌝ }
 {
     if nodes.len() == z.nodes as usize * 6 {

@@ -1,0 +1,2 @@
+-- Each way out of walking and handing out.
+pub mod Ways
