@@ -216,7 +216,17 @@ fn hand_on(
                 made,
             };
         }
-        match next_key(nodes, entries, pairs, low, high, snapshot, at, handed, count) {
+        match next_key(
+            nodes,
+            entries,
+            pairs,
+            low,
+            high,
+            snapshot,
+            at,
+            handed,
+            count,
+        ) {
             Found::At(to) => {
                 let key = nodes::node(nodes, to, KEY);
                 let value = nodes::node(nodes, to, VALUE);

@@ -6,9 +6,6 @@ use mathlib.Core.Path.{_≡_, refl, ap}
 use mathlib.Core.List.{List}
 use mathlib.Core.Bool.{Bool, true, false, cond}
 use native.Mathlib.Omega.{arith}
-use lib.ListN.{length}
-use lib.Dec.{leb}
-use Rattle.table.specs.Table.{storeOf}
 use Rattle.terms.specs.declared.Size.{Size}
 use Rattle.terms.specs.declared.Counters.{Counters}
 use Rattle.terms.specs.declared.Refusal.{Refusal}
@@ -17,10 +14,11 @@ use Rattle.steps.specs.declared.Session.{Session}
 use Rattle.steps.specs.declared.Stepped.{Stepped}
 use Rattle.steps.specs.Steps.{Done, done}
 use Rattle.register.specs.Register.{stepOf}
+use Rattle.onward.specs.Onward.{hasRoom, putPair}
 use Rattle.several.specs.declared.Said.{Said}
 use Rattle.several.specs.declared.Turn.{Turn}
-use Rattle.several.specs.Several.{saidOf, hasRoom, handed, putPair, handOut, goesOn, Turned, turned, turn}
-use Rattle.several.specs.Several.{turnWith, turnBy, turnOf, Gone, gone, nextOr, goOn, severalOf}
+use Rattle.several.specs.Several.{saidOf, handed, handOut, goesOn, Turned, turned, turn}
+use Rattle.several.specs.Several.{turnWith, turnBy, turnOf, Gone, stops, nextOr, goOn, severalOf}
 
 -- ---- what an answer says
 module _ (a : Answer) where
@@ -68,10 +66,6 @@ pub ruleset says-other = (
 )
 
 -- ---- pairs handed out
-pub room-for : (ps : List ℕ) (n : ℕ) → leb (n * 2 + 2) (length ps) ≡ hasRoom ps n
-unfolding hasRoom
-room-for ps n = refl
-
 module _ (ps : List ℕ) (n : ℕ) (w : Said) where
   pub no-key : w ≡ Said.Working → handed ps n ≡ handOut ps n w
   no-key e = rw e
@@ -80,9 +74,8 @@ module _ (ps : List ℕ) (n : ℕ) (w : Said) where
   no-key-else e = rw e
 
   module _ (k v : ℕ) (key : w ≡ Said.Key k v) (b : Bool) (room : b ≡ hasRoom ps n) where
-    pub key-put : (ps₁ ps₂ : List ℕ) → b ≡ true → ps₁ ≡ storeOf 2 ps n 0 k → ps₂ ≡ storeOf 2 ps₁ n 1 v
-        → handed ps₂ (n + 1) ≡ handOut ps n w
-    key-put ps₁ ps₂ h e f = rw (key, ← room, h, f, e)
+    pub key-put : (ps′ : List ℕ) → b ≡ true → ps′ ≡ putPair ps n k v → handed ps′ (n + 1) ≡ handOut ps n w
+    key-put ps′ h e = rw (key, ← room, h, e)
 
     pub key-not : b ≡ false → handed ps n ≡ handOut ps n w
     key-not h = rw (key, ← room, h)
@@ -134,38 +127,33 @@ few z ns es ps n c who s ns′ es′ ps′ t made e h =
     omega (arith, h, f, few-done ps n (stepOf z ns es c who s))
 
 -- ---- the steps
-pub record Rest (all : Gone) (z : Size) (who limit made : ℕ) (ns es ps : List ℕ) (n : ℕ) (c : Counters) (s : Session) :
+pub less-none : (limit : ℕ) → limit ≡ 0 → 0 ≡ limit - 1
+less-none limit h = rw h
+
+pub record Rest (all : Gone) (z : Size) (who most made : ℕ) (ns es ps : List ℕ) (n : ℕ) (c : Counters) (s : Session) :
     Type 0 where
-  pub same : all ≡ goOn (limit - 1 - made) z who made ns es ps n c s
+  pub same : all ≡ goOn (most - made) z who made ns es ps n c s
 
-pub go-first : (z : Size) (who limit : ℕ) (ns es ps : List ℕ) (c : Counters) (s : Session)
-    → Rest (severalOf z ns es ps c who s limit) z who limit 0 ns es ps 0 c s
-go-first z who limit ns es ps c s =
-    let e : limit - 1 - 0 ≡ limit - 1 = omega arith in record { same = rw e }
+pub go-first : (z : Size) (who limit most : ℕ) (ns es ps : List ℕ) (c : Counters) (s : Session) → most ≡ limit - 1
+    → Rest (severalOf z ns es ps c who s limit) z who most 0 ns es ps 0 c s
+go-first z who limit most ns es ps c s h =
+    let e : most - 0 ≡ limit - 1 = omega (arith, h) in record { same = rw e }
 
-module _ (all : Gone) (z : Size) (who limit made : ℕ) (ns es ps : List ℕ) (n : ℕ) (c : Counters) (s : Session)
-    (rest : Rest all z who limit made ns es ps n c s) (ns′ es′ ps′ : List ℕ) (t : Turn)
+module _ (all : Gone) (z : Size) (who most made : ℕ) (ns es ps : List ℕ) (n : ℕ) (c : Counters) (s : Session)
+    (rest : Rest all z who most made ns es ps n c s) (ns′ es′ ps′ : List ℕ) (t : Turn)
     (call : turned ns′ es′ ps′ t ≡ turnOf z ns es ps n c who s) where
-  pub go-limit : limit ≤ made + 1 → gone ns′ es′ ps′ (record { last = t; made = made + 1 }) ≡ all
+  pub turn-last : most ≤ made → stops (made + 1) (turned ns′ es′ ps′ t) ≡ all
   unfolding goOn
-  go-limit h =
-      let e : limit - 1 - made ≡ 0 = omega (arith, h) in
-      rw (rest .same, e, ← call)
+  turn-last h = let e : most - made ≡ 0 = omega (arith, h) in rw (rest .same, e, ← call)
 
   -- one that is not the last
-  mid : made + 1 < limit
-      → all ≡ nextOr (goOn (limit - 1 - (made + 1)) z who (made + 1)) (made + 1) (turned ns′ es′ ps′ t)
+  mid : made < most → all ≡ nextOr (goOn (most - (made + 1)) z who (made + 1)) (made + 1) (turned ns′ es′ ps′ t)
   unfolding goOn
-  mid h =
-      let e : limit - 1 - made ≡ suc (limit - 1 - (made + 1)) = omega (arith, h) in
-      rw (rest .same, e, ← call)
+  mid h = let e : most - made ≡ suc (most - (made + 1)) = omega (arith, h) in rw (rest .same, e, ← call)
 
-  pub go-stop : made + 1 < limit → t .on ≡ false
-      → gone ns′ es′ ps′ (record { last = t; made = made + 1 }) ≡ all
-  go-stop more h = rw (mid more, h)
+  pub turn-stops : made < most → t .on ≡ false → stops (made + 1) (turned ns′ es′ ps′ t) ≡ all
+  turn-stops more h = rw (mid more, h)
 
-  pub go-on : made + 1 < limit → t .on ≡ true
-      → Rest all z who limit (made + 1) ns′ es′ ps′ (t .count) (t .counters) (t .session)
-  go-on more h = record { same = rw (mid more, h) }
-
-pub ruleset goes = (go-limit, go-stop)
+  pub turn-on : made < most → t .on ≡ true
+      → Rest all z who most (made + 1) ns′ es′ ps′ (t .count) (t .counters) (t .session)
+  turn-on more h = record { same = rw (mid more, h) }

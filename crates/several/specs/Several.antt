@@ -4,12 +4,9 @@
 -- A call makes one step at least. It goes on after working, and after a key while another finds room in the lent
 -- pairs; at most `more` steps follow the first.
 -- Not here: the step (crate register), the words of records and answers (crate ffi). Assumes nothing.
-use Prim.Native.Nat.{ℕ, zero, suc, _+_, _-_, _*_}
+use Prim.Native.Nat.{ℕ, zero, suc, _+_, _-_}
 use mathlib.Core.List.{List}
 use mathlib.Core.Bool.{Bool, true, false, cond}
-use lib.ListN.{length}
-use lib.Dec.{leb}
-use Rattle.table.specs.Table.{storeOf}
 use Rattle.terms.specs.declared.Size.{Size}
 use Rattle.terms.specs.declared.Counters.{Counters}
 use Rattle.terms.specs.declared.Answer.{Answer}
@@ -17,6 +14,8 @@ use Rattle.steps.specs.declared.Session.{Session}
 use Rattle.steps.specs.declared.Stepped.{Stepped}
 use Rattle.steps.specs.Steps.{Done, done}
 use Rattle.register.specs.Register.{stepOf}
+use Rattle.onward.specs.declared.Far.{Far}
+use Rattle.onward.specs.Onward.{hasRoom, putPair, Reach, reached, farOf}
 use Rattle.several.specs.declared.Said.{Said}
 use Rattle.several.specs.declared.Turn.{Turn}
 use Rattle.several.specs.declared.Went.{Went}
@@ -34,15 +33,9 @@ saidOf Answer.Absent = Said.Other
 saidOf (Answer.End snapshot count) = Said.Other
 saidOf (Answer.Refused why) = Said.Other
 
--- ---- the lent pairs, and how many of them this call has filled: key n stands at word 2n, its value after it
+-- ---- the lent pairs, and how many of them this call has filled
 pub data Handed : Type 0 where
   handed : List ℕ → ℕ → Handed
-
-unfoldable pub hasRoom : List ℕ → ℕ → Bool
-hasRoom ps n = leb (n * 2 + 2) (length ps)
-
-abbrev pub putPair : List ℕ → ℕ → ℕ → ℕ → List ℕ
-putPair ps n k v = storeOf 2 (storeOf 2 ps n 0 k) n 1 v
 
 -- with a key more, where there is room
 abbrev pub handOut : List ℕ → ℕ → Said → Handed
@@ -94,6 +87,13 @@ goOn zero z who made ns es ps n c s = stops (made + 1) (turnOf z ns es ps n c wh
 goOn (suc more) z who made ns es ps n c s =
     nextOr (goOn more z who (made + 1)) (made + 1) (turnOf z ns es ps n c who s)
 
--- at most `limit` steps, and one at least
+-- ---- the same, quicker: as far as the session gets without a halt (crate onward), and one step more
+abbrev pub stepThen : Size → List ℕ → List ℕ → Counters → ℕ → Reach → Gone
+stepThen z ns es c who (reached ps f) = stops (f .made + 1) (turnOf z ns es ps (f .count) c who (f .session))
+
+unfoldable pub strideOf : ℕ → Size → List ℕ → List ℕ → List ℕ → ℕ → Counters → ℕ → Session → ℕ → Gone
+strideOf more z ns es ps n c who s made = stepThen z ns es c who (farOf more z ns es ps who s n made)
+
+-- ---- at most `limit` steps, and one at least
 abbrev pub severalOf : Size → List ℕ → List ℕ → List ℕ → Counters → ℕ → Session → ℕ → Gone
 severalOf z ns es ps c who s limit = goOn (limit - 1) z who 0 ns es ps 0 c s

@@ -1,19 +1,19 @@
 // Several steps of one session in one call, so that a caller decodes and encodes the session's record once for all.
-// In order: what a call returns; the pairs handed out; whether the call goes on; one step; the
-// steps.
+// In order: what a call returns; the pairs handed out; whether the call goes on; one step; as far as
+// it gets and one step; the steps.
 // Not here: the step (crate register), the words of records and answers (crate ffi). Assumes nothing.
 ghost use mathlib.Core.Path.{_≡_};
-ghost use Prim.Native.Nat.{_<_};
+ghost use Prim.Native.Nat.{_-_, _≤_, _<_};
 ghost use Rattle.terms.specs.Terms.{small};
 ghost use Rattle.several.specs.Several.{
   saidOf,
-  hasRoom,
   handed,
   handOut,
   goesOn,
   turned,
   turnOf,
   gone,
+  strideOf,
   severalOf,
 };
 use steps::Session;
@@ -59,12 +59,6 @@ fn hear(answer: Answer) -> Said
     }
 }
 
-fn has_room(pairs: &[u32], count: u32) -> bool
-    ensures { λ r. ⌜ r ≡ hasRoom (now (pairs .entry)) count ⌝ }
-{
-    count as usize * 2 + 2 <= pairs.len()
-}
-
 // A key more, where there is room; how many pairs are filled then.
 fn hand_out(pairs: &mut [u32], count: u32, what: Said) -> u32
     requires { ⌜ count < 4294967295 ⌝ }
@@ -73,9 +67,8 @@ fn hand_out(pairs: &mut [u32], count: u32, what: Said) -> u32
     match what {
         Said::Working => count,
         Said::Key(key, value) => {
-            if has_room(pairs, count) {
-                table::store(pairs, 2, count, 0, key);
-                table::store(pairs, 2, count, 1, value);
+            if onward::has_room(pairs, count) {
+                onward::put_pair(pairs, count, key, value);
                 return count + 1;
             }
             count
@@ -89,7 +82,7 @@ fn goes_on(pairs: &[u32], count: u32, what: Said) -> bool
 {
     match what {
         Said::Working => true,
-        Said::Key(_, _) => has_room(pairs, count),
+        Said::Key(_, _) => onward::has_room(pairs, count),
         Said::Other => false,
     }
 }
@@ -123,6 +116,40 @@ fn one_step(
     }
 }
 
+// How many steps may follow the first.
+fn one_less(limit: u32) -> u32
+    ensures { λ r. ⌜ r ≡ limit - 1 ⌝ }
+{
+    if limit == 0 {
+        return 0;
+    }
+    limit - 1
+}
+
+// As far as the session gets without a halt, and one step more; `made` steps are made before.
+fn stride(
+    nodes: &mut [u32],
+    entries: &mut [u32],
+    pairs: &mut [u32],
+    count: u32,
+    c: Counters,
+    who: u32,
+    s: Session,
+    made: u32,
+    most: u32,
+) -> Went
+    requires { ⌜ (count ≤ made) × (made ≤ most) × (most < 4294967295) ⌝ }
+    ensures { λ r. ⌜ gone (now (nodes .exit)) (now (entries .exit)) (now (pairs .exit)) r
+        ≡ strideOf (most - made) small (now (nodes .entry)) (now (entries .entry)) (now (pairs .entry)) count c who s
+        made ⌝ }
+{
+    let far = onward::go_far(nodes, entries, pairs, who, s, count, made, most);
+    let made = far.made + 1;
+    let here = far.session;
+    let last = one_step(nodes, entries, pairs, far.count, c, who, here);
+    Went { last, made }
+}
+
 // Steps of session `who` until an answer that is neither working nor a key, or a key that leaves no room for another,
 // or `limit` steps; one at least.
 pub fn steps(
@@ -137,21 +164,33 @@ pub fn steps(
     ensures { λ r. ⌜ gone (now (nodes .exit)) (now (entries .exit)) (now (pairs .exit)) r
         ≡ severalOf small (now (nodes .entry)) (now (entries .entry)) (now (pairs .entry)) c who s limit ⌝ }
 {
+    let most = one_less(limit);
     let mut counters = c;
     let mut session = s;
     let mut count: u32 = 0;
     let mut made: u32 = 0;
     loop {
-        let last = one_step(nodes, entries, pairs, count, counters, who, session);
-        made += 1;
-        if made < limit {
+        let went = stride(
+            nodes,
+            entries,
+            pairs,
+            count,
+            counters,
+            who,
+            session,
+            made,
+            most,
+        );
+        let last = went.last;
+        if went.made <= most {
             if last.on {
                 count = last.count;
                 counters = last.counters;
                 session = last.session;
+                made = went.made;
                 continue;
             }
         }
-        return Went { last, made };
+        return went;
     }
 }
