@@ -6,8 +6,8 @@
    All memory is the caller's. Each slice goes in as a pointer and a length in elements; slices that a call writes may
    not overlap with any other slice of that call. A call of another length than below is refused 7, any content is
    taken. Every call returns 0 or the number of the refusal. A refusal changes nothing but the answer; RC_FULL differs:
-   it frees the lock and makes the session idle. Where the answer's length is not RC_ANSWER_WORDS the call returns
-   RC_BAD_TABLE and writes nothing at all. */
+   it frees the lock and makes the session idle. Where the answer's length is not RC_ANSWER_WORDS (ravencrumb_steps:
+   RC_STEPS_ANSWER_WORDS) the call returns RC_BAD_TABLE and writes nothing at all. */
 #ifndef RAVENCRUMB_H
 #define RAVENCRUMB_H
 
@@ -24,6 +24,7 @@ extern "C" {
 #define RC_WORDS 147          /* 3 counters and 16 records of RC_RECORD_WORDS */
 #define RC_RECORD_WORDS 9
 #define RC_ANSWER_WORDS 3
+#define RC_STEPS_ANSWER_WORDS 5 /* of ravencrumb_steps */
 #define RC_SESSIONS 16
 #define RC_MOST_KEYS 510
 #define RC_LISTING_BYTES 16357 /* the longest listing */
@@ -74,6 +75,10 @@ extern "C" {
 #define RC_WRITTEN 10 /* the length */
 #define RC_LOADED 11  /* the stamp: one update for each key */
 
+/* ---- behind the answer of ravencrumb_steps: word 3 how many pairs are filled, word 4 how many steps were made */
+#define RC_PAIRS_FILLED 3
+#define RC_STEPS_MADE 4
+
 /* ---- refusals */
 #define RC_BAD_SESSION 1
 #define RC_BUSY 2
@@ -101,6 +106,16 @@ uint32_t ravencrumb_start(const uint32_t *nodes, size_t nodes_len, const uint32_
 /* One step of session `who`. Refuses 7, 1, 8 (the session's words are no record's), 5, 8 (damaged); 6 (full). */
 uint32_t ravencrumb_step(uint32_t *nodes, size_t nodes_len, uint32_t *entries, size_t entries_len, uint32_t *words,
                          size_t words_len, uint32_t *answer, size_t answer_len, uint32_t who);
+
+/* Steps of session `who` in one call, the same as ravencrumb_step again and again: until an answer that is neither
+   working nor a key, or a key that leaves no room for another in `pairs`, or `limit` steps; one at least. Key i handed
+   out is pairs[2 i], its value pairs[2 i + 1]; `pairs` may have any length, 0 too: then a key ends the call and is in
+   the answer alone, where the last key always is. answer[RC_PAIRS_FILLED] pairs are filled, answer[RC_STEPS_MADE] steps
+   were made, the last of them answered. Refuses as ravencrumb_step does; a refusal of a later step leaves what the steps
+   before it did. With the others' steps in mind: a call of k steps is k steps of this session in a row. */
+uint32_t ravencrumb_steps(uint32_t *nodes, size_t nodes_len, uint32_t *entries, size_t entries_len, uint32_t *words,
+                          size_t words_len, uint32_t *pairs, size_t pairs_len, uint32_t *answer, size_t answer_len,
+                          uint32_t who, uint32_t limit);
 
 /* Writes a listing of a stamp, keys and values (as many values as keys) and answers its length; no byte past it changes.
    Refuses 12, 11. */

@@ -43,23 +43,23 @@ static void step(uint32_t who, int times) {
     }
 }
 
-/* ---- the keys that a range over all keys hands out, written as a listing and read into another register */
+/* ---- the keys that a range over all keys hands out, in one call while no other session has a step; written as a
+   listing and read into another register */
 static int copied(void) {
-    static uint32_t keys[RC_MOST_KEYS], values[RC_MOST_KEYS];
+    static uint32_t pairs[2 * RC_MOST_KEYS], keys[RC_MOST_KEYS], values[RC_MOST_KEYS], told[RC_STEPS_ANSWER_WORDS];
     static uint32_t more_nodes[RC_NODE_WORDS], more_entries[RC_ENTRY_WORDS], more_words[RC_WORDS];
     static uint8_t listing[RC_LISTING_BYTES];
-    uint32_t n = 0;
     ravencrumb_start(nodes, RC_NODE_WORDS, entries, RC_ENTRY_WORDS, words, RC_WORDS, answer, RC_ANSWER_WORDS, 2,
                      RC_RANGE, 1, UINT32_MAX - 1);
-    do {
-        ravencrumb_step(nodes, RC_NODE_WORDS, entries, RC_ENTRY_WORDS, words, RC_WORDS, answer, RC_ANSWER_WORDS, 2);
-        if (answer[0] == RC_KEY) {
-            keys[n] = answer[1];
-            values[n++] = answer[2];
-        }
-    } while (answer[0] == RC_WORKING || answer[0] == RC_WAITING || answer[0] == RC_KEY);
-    if (answer[0] != RC_END) return 1;
-    if (ravencrumb_write(answer[1], keys, n, values, n, listing, RC_LISTING_BYTES, answer, RC_ANSWER_WORDS)) return 1;
+    ravencrumb_steps(nodes, RC_NODE_WORDS, entries, RC_ENTRY_WORDS, words, RC_WORDS, pairs, 2 * RC_MOST_KEYS, told,
+                     RC_STEPS_ANSWER_WORDS, 2, UINT32_MAX);
+    if (told[0] != RC_END) return 1;
+    uint32_t n = told[RC_PAIRS_FILLED];
+    for (uint32_t i = 0; i < n; i++) {
+        keys[i] = pairs[2 * i];
+        values[i] = pairs[2 * i + 1];
+    }
+    if (ravencrumb_write(told[1], keys, n, values, n, listing, RC_LISTING_BYTES, answer, RC_ANSWER_WORDS)) return 1;
     uint32_t length = answer[1];
     fwrite(listing, 1, length, stdout);
     if (ravencrumb_read(listing, length, more_nodes, RC_NODE_WORDS, more_entries, RC_ENTRY_WORDS, more_words, RC_WORDS,

@@ -109,6 +109,11 @@ impl Content {
         Answer::Started
     }
 
+    /// Whether a session's words are a record's.
+    pub fn well_formed(&self, who: u32) -> bool {
+        self.records.get(who as usize).is_some_and(|w| read(w).is_some())
+    }
+
     pub fn step(&mut self, who: u32) -> Answer {
         if !self.fits() {
             return Answer::Refused(7);

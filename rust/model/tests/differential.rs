@@ -1,6 +1,7 @@
 //! The proved register compared with the model, call by call and word by word.
-//! In order: scale and seeds; registers that began fresh, under random schedules of sixteen sessions; any content; wrong
-//! lengths; listings; every refusal number and each neighbouring pair in document 01's order.
+//! In order: scale and seeds; registers that began fresh, under random schedules of sixteen sessions, a call a step and
+//! many steps a call; any content; wrong lengths; listings; every refusal number and each neighbouring pair in document
+//! 01's order.
 //! RAVENCRUMB_SCALE multiplies the steps (1 in the gate), RAVENCRUMB_SEED sets the first seed; seeds are printed.
 
 use model::content::Content;
@@ -50,6 +51,24 @@ impl Words {
 
     fn step(&mut self, who: u32) -> u32 {
         raw::step(&mut self.nodes, &mut self.entries, &mut self.words, &mut self.answer, who)
+    }
+
+    /// Many steps in one call, compared with what one step after the other left: `single` is that register, with the
+    /// answers that it gave; `pairs` is the lent slice.
+    fn many(&mut self, single: &Words, answers: &[Vec<u32>], who: u32, limit: u32, mut pairs: Vec<u32>, number: u32) {
+        let steps = Content::of(&self.nodes, &self.entries, &self.words).well_formed(who) as usize * answers.len();
+        let mut expected = pairs.clone();
+        let keys: Vec<_> = answers.iter().filter(|a| a[0] == 4).take(pairs.len() / 2).collect();
+        for (i, key) in keys.iter().enumerate() {
+            expected[2 * i..2 * i + 2].copy_from_slice(&key[1..3]);
+        }
+        let mut answer = vec![9; 5];
+        let got = raw::steps(&mut self.nodes, &mut self.entries, &mut self.words, &mut pairs, &mut answer, who, limit);
+        let last = answers.last().expect("one step at least");
+        assert_eq!((got, &answer[..3]), (number, &last[..]), "session {who}, limit {limit}");
+        assert_eq!(answer[3..], [keys.len() as u32, steps as u32], "session {who}, limit {limit}");
+        assert!(pairs == expected, "pairs of session {who}, limit {limit}");
+        assert!(self.nodes == single.nodes && self.entries == single.entries && self.words == single.words);
     }
 
     /// The first difference from what the model has, for a message.
@@ -195,6 +214,24 @@ fn call(real: &mut Words, model: &mut Living, met: &mut Met, who: u32, op: Optio
     answer
 }
 
+/// Whether a call of many steps goes on after an answer, so many keys being in `room` pairs.
+fn goes_on(answer: &[u32], keys: usize, room: usize) -> bool {
+    answer[0] == 2 || answer[0] == 4 && keys < room
+}
+
+/// Some steps of a session, each compared with the model, and the same again in one call.
+fn many(r: &mut Random, real: &mut Words, model: &mut Living, met: &mut Met, who: u32) {
+    let (limit, length) = (r.of(&[0, 1, 2, 3, 7, 40, u32::MAX]), r.of(&[0, 1, 2, 3, 6, 9, 1020]));
+    let mut quick = real.clone();
+    let (mut answers, mut keys, mut number) = (Vec::new(), 0, 0);
+    while answers.is_empty() || (answers.len() < limit as usize && goes_on(&real.answer, keys, length / 2)) {
+        number = reply(call(real, model, met, who, None)).1;
+        answers.push(real.answer.clone());
+        keys += (real.answer[0] == 4) as usize;
+    }
+    quick.many(real, &answers, who, limit, vec![9; length], number);
+}
+
 /// Follows the real tables at a snapshot from the head: what a range over all keys would hand out.
 fn read_at(real: &Words, snapshot: u32) -> Vec<(u32, u32)> {
     let mut pairs = vec![];
@@ -245,6 +282,9 @@ fn life(seed: u64, calls: u64, met: &mut Met) {
             let far = r.of(&[16, 17, 255, u32::MAX]);
             call(&mut real, &mut model, met, far, None);
             call(&mut real, &mut model, met, far, Some(manner.op(&mut r)));
+        }
+        if r.one_in(20) {
+            many(&mut r, &mut real, &mut model, met, who);
         }
         let wants = if model.busy(who as usize) { r.one_in(100) } else { !r.one_in(50) };
         let op = wants.then(|| manner.op(&mut r));
@@ -370,6 +410,19 @@ fn compare(real: &mut Words, met: &mut Met, who: u32, op: Option<(u32, u32, u32)
     number
 }
 
+/// As `many`, on any content. Steps may go round for ever there, so that the limit is small.
+fn many_anywhere(r: &mut Random, real: &mut Words, met: &mut Met, who: u32, seed: u64) {
+    let (limit, length) = (r.of(&[0, 1, 2, 5, 30]), r.of(&[0, 1, 2, 3, 8, 64]));
+    let mut quick = real.clone();
+    let (mut answers, mut keys, mut number) = (Vec::new(), 0, 0);
+    while answers.is_empty() || (answers.len() < limit as usize && goes_on(&real.answer, keys, length / 2)) {
+        number = compare(real, met, who, None, seed);
+        answers.push(real.answer.clone());
+        keys += (real.answer[0] == 4) as usize;
+    }
+    quick.many(real, &answers, who, limit, vec![9; length], number);
+}
+
 #[test]
 fn any_content() {
     let began = std::time::Instant::now();
@@ -399,6 +452,9 @@ fn any_content() {
             if r.one_in(6) {
                 let i = r.below(3) as usize;
                 real.words[i] = odd(&mut r);
+            }
+            if r.one_in(4) {
+                many_anywhere(&mut r, &mut real, &mut met, who, seed);
             }
             let op = r.one_in(5).then(|| (r.below(6) as u32, odd(&mut r), odd(&mut r)));
             compare(&mut real, &mut met, who, op, seed);
@@ -435,6 +491,9 @@ fn damaged_lives() {
                 }
             }
             let who = r.below(16) as u32;
+            if r.one_in(10) {
+                many_anywhere(&mut r, &mut real, &mut met, who, seed);
+            }
             let op = r.one_in(4).then(|| kinds(manner.op(&mut r)));
             compare(&mut real, &mut met, who, op, seed);
         }
@@ -479,6 +538,17 @@ fn wrong_lengths() {
         assert_eq!(w.start(who, (1, 5, 5)), expected, "{lengths:?}");
         assert!(w.nodes == before.nodes && w.entries == before.entries && w.words == before.words);
         assert_eq!(w.answer, told(expected));
+        let (mut pairs, mut answer) = (vec![9; r.below(9) as usize], vec![9; if lengths[3] == 3 { 5 } else { lengths[3] }]);
+        let number = raw::steps(&mut w.nodes, &mut w.entries, &mut w.words, &mut pairs, &mut answer, who, 9);
+        let heard = match (answer.len(), right, who < 16) {
+            (5, false, _) => (7, vec![0, 7, 0, 0, 0]),
+            (5, true, false) => (1, vec![0, 1, 0, 0, 0]),
+            (5, true, true) => (8, vec![0, 8, 0, 0, 0]),
+            (other, ..) => (7, vec![9; other]),
+        };
+        assert_eq!((number, answer), heard, "{lengths:?}");
+        assert!(w.nodes == before.nodes && w.entries == before.entries && w.words == before.words);
+        assert!(pairs.iter().all(|p| *p == 9));
         let number = raw::fresh(&mut w.nodes, &mut w.entries, &mut w.words);
         assert_eq!(number, if right { 0 } else { 7 });
         if right {

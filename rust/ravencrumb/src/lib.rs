@@ -15,6 +15,12 @@
 //!     }
 //! };
 //! assert_eq!(step, Step::Inserted(1));
+//!
+//! // a whole range in one call: its keys, and its end
+//! let mut keys = Vec::new();
+//! register.start(1, Operation::Range(1, 100))?;
+//! assert_eq!(register.steps(1, u32::MAX, 510, &mut keys)?, Step::End(1, 1));
+//! assert_eq!(keys, [(20, 7)]);
 //! # Ok::<(), ravencrumb::Refusal>(())
 //! ```
 
@@ -59,6 +65,23 @@ pub enum Step {
     Absent,
     /// A range is over: the snapshot, and how many keys it handed out.
     End(u32, u32),
+}
+
+impl Step {
+    /// By the words of an answer, and the number that the call returned.
+    fn of(answer: [u32; raw::ANSWER_WORDS], number: u32) -> Result<Step, Refusal> {
+        match answer {
+            [2, ..] => Ok(Step::Working),
+            [3, ..] => Ok(Step::Waiting),
+            [4, key, value] => Ok(Step::Key(key, value)),
+            [5, number, _] => Ok(Step::Inserted(number)),
+            [6, number, _] => Ok(Step::Removed(number)),
+            [7, ..] => Ok(Step::Present),
+            [8, ..] => Ok(Step::Absent),
+            [9, snapshot, handed] => Ok(Step::End(snapshot, handed)),
+            [_, _, value] => Err(Refusal::of(number, value)),
+        }
+    }
 }
 
 /// Document 01's refusals that these calls can give.
@@ -176,17 +199,26 @@ impl Register {
     pub fn step(&mut self, session: u32) -> Result<Step, Refusal> {
         let mut answer = [0; raw::ANSWER_WORDS];
         let number = raw::step(&mut self.nodes, &mut self.entries, &mut self.words, &mut answer, session);
-        match answer {
-            [2, ..] => Ok(Step::Working),
-            [3, ..] => Ok(Step::Waiting),
-            [4, key, value] => Ok(Step::Key(key, value)),
-            [5, number, _] => Ok(Step::Inserted(number)),
-            [6, number, _] => Ok(Step::Removed(number)),
-            [7, ..] => Ok(Step::Present),
-            [8, ..] => Ok(Step::Absent),
-            [9, snapshot, handed] => Ok(Step::End(snapshot, handed)),
-            [_, _, value] => Err(Refusal::of(number, value)),
-        }
+        Step::of(answer, number)
+    }
+
+    /// Steps of a session in one call: until an answer that is neither working nor a key, or `keys` keys are handed out,
+    /// or `limit` steps are made; one at least. The keys are added to `out`, the last answer comes back. With no room
+    /// for keys, a key ends the call and is that answer.
+    pub fn steps(
+        &mut self,
+        session: u32,
+        limit: u32,
+        keys: usize,
+        out: &mut Vec<(u32, u32)>,
+    ) -> Result<Step, Refusal> {
+        let mut pairs = vec![0; 2 * keys.min(raw::MOST_KEYS)];
+        let mut answer = [0; raw::STEPS_ANSWER_WORDS];
+        let Register { nodes, entries, words } = self;
+        let number = raw::steps(nodes, entries, words, &mut pairs, &mut answer, session, limit);
+        let [name, first, second, count, _] = answer;
+        out.extend(pairs.chunks_exact(2).take(count as usize).map(|p| (p[0], p[1])));
+        Step::of([name, first, second], number)
     }
 
     /// How many updates have a number.

@@ -6,7 +6,10 @@ pub const ENTRY_WORDS: usize = 8192;
 pub const WORDS: usize = 147;
 pub const RECORD_WORDS: usize = 9;
 pub const ANSWER_WORDS: usize = 3;
+/// Of a call of many steps: the answer, then how many pairs are filled and how many steps were made.
+pub const STEPS_ANSWER_WORDS: usize = 5;
 pub const STAMP: usize = 2;
+pub const MOST_KEYS: usize = 510;
 pub const LISTING_BYTES: usize = 16357;
 
 mod c {
@@ -18,6 +21,10 @@ mod c {
         ) -> u32;
         pub fn ravencrumb_step(
             n: *mut u32, nl: usize, e: *mut u32, el: usize, w: *mut u32, wl: usize, a: *mut u32, al: usize, who: u32,
+        ) -> u32;
+        pub fn ravencrumb_steps(
+            n: *mut u32, nl: usize, e: *mut u32, el: usize, w: *mut u32, wl: usize, p: *mut u32, pl: usize,
+            a: *mut u32, al: usize, who: u32, limit: u32,
         ) -> u32;
         pub fn ravencrumb_write(
             stamp: u32, k: *const u32, kl: usize, v: *const u32, vl: usize, o: *mut u8, ol: usize, a: *mut u32,
@@ -58,6 +65,19 @@ pub fn step(nodes: &mut [u32], entries: &mut [u32], words: &mut [u32], answer: &
         c::ravencrumb_step(
             nodes.as_mut_ptr(), nodes.len(), entries.as_mut_ptr(), entries.len(), words.as_mut_ptr(), words.len(),
             answer.as_mut_ptr(), answer.len(), who,
+        )
+    }
+}
+
+pub fn steps(
+    nodes: &mut [u32], entries: &mut [u32], words: &mut [u32], pairs: &mut [u32], answer: &mut [u32], who: u32,
+    limit: u32,
+) -> u32 {
+    // Safe: as in `fresh`.
+    unsafe {
+        c::ravencrumb_steps(
+            nodes.as_mut_ptr(), nodes.len(), entries.as_mut_ptr(), entries.len(), words.as_mut_ptr(), words.len(),
+            pairs.as_mut_ptr(), pairs.len(), answer.as_mut_ptr(), answer.len(), who, limit,
         )
     }
 }
