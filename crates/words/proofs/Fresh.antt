@@ -221,7 +221,7 @@ fresh-is ns es nodes entries key val A =
         cut = λ x m. absurd (List·Memᴰ·not-nil m);
         count = refl;
       };
-      tells = record { updates = refl; since = λ t. refl; handed = λ t. tt };
+      tells = record { updates = refl; under = λ t. refl; since = λ t. refl; handed = λ t. tt };
     }
 
 pub fresh-shows : (ns es ns′ es′ : List ℕ) (c : Counters) → freshOf small ns es ≡ opened ns′ es′ (Opened.Ready c)

@@ -42,8 +42,8 @@ use Rattle.drawing.specs.Steps.{hand-out}
 use Rattle.drawing.specs.Answers.{Right}
 use Rattle.drawing.proofs.Answers.{answers}
 use Rattle.words.proofs.Show.{running, outWord, Advance, waited, stepped, Shown, Advanced}
-use Rattle.words.proofs.Land.{usedOf, Busy, busy-record, fits-whole, step-acts}
-use Rattle.words.proofs.Starts.{Early, Begins, begins, refuses-early, start-says, idle-refused}
+use Rattle.words.proofs.Land.{usedOf, Early, Busy, busy-record, fits-whole, step-acts}
+use Rattle.words.proofs.Starts.{Begins, begins, refuses-early, start-says, idle-refused}
 
 -- ---- full is answered at an insert's Prepare alone
 abbrev Other : Out → Type 0

@@ -24,7 +24,7 @@ use Rattle.steps.specs.Steps
 use Rattle.sixteen.specs.declared.Call.{Call}
 use Rattle.reached.specs.Reached.{State, stampOf, recordOf, go, answer, Past, note}
 use Rattle.drawing.specs.Phases.{Op, upd, has, range, Phase, idle, walking, locking, lockingCurr, checking, preparing}
-use Rattle.drawing.specs.Phases.{numbering, linking, finishing, seeking, fixing, following, handing}
+use Rattle.drawing.specs.Phases.{numbering, linking, finishing, seeking, fixing, following, handing, task}
 use Rattle.drawing.specs.Drawing.{Owned, final, pending, shown, Drawing, now}
 use Rattle.drawing.specs.Effects.{Effect, after}
 use Rattle.drawing.specs.Steps.{Out, working, present, absent, full, inserted, removed, key-value, ended, Step, Waits}
@@ -68,6 +68,11 @@ opWord (upd (insert k v)) = Op.Op.Insert k v
 opWord (upd (remove k)) = Op.Op.Remove k
 opWord (has k) = Op.Op.Has k
 opWord (range low high) = Op.Op.Range low high
+
+-- the operation that a phase serves, or none
+abbrev pub taskWord : Option Op → Op.Op
+taskWord none = Op.Op.None
+taskWord (some op) = opWord op
 
 abbrev pub running : Op → Phase.Phase → Session
 running op phase = record { op = opWord op; phase = phase }
@@ -126,6 +131,7 @@ HandedIn (handing low high x s given) hs = hs ≡ given
 
 pub record Tells (key val : ℕ → ℕ) (h : Past) (m : Drawing) : Type 0 where
   pub updates : h .updates ≡ map (said key val) (m .log)
+  pub under : (t : ℕ) → h .under t ≡ taskWord (task (m .phase t))
   pub since : (t : ℕ) → h .since t ≡ m .since t
   pub handed : (t : ℕ) → HandedIn (m .phase t) (h .handed t)
 
