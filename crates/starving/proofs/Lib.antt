@@ -3,10 +3,12 @@
 -- computed test of fair calls, of one session and of a register; the premise can be met; served in turn, every
 -- range ends; queries that wait and end; that it is not so of `has`.
 -- Not here: demand 3's sentences (crate reached), the window argument (crates fairness and pace). Assumes nothing.
+pub mod Reaches
 pub mod Live
 pub mod Words
 pub mod Where
 pub mod Above
+pub mod Last
 pub mod Demand3
 pub mod Spaced
 pub mod Tested

@@ -225,17 +225,27 @@ pub at-other : {A : Type 0} (f : ℕ → A) (t : ℕ) (a : A) (w : ℕ) → w �
 unfolding at
 at-other f t a w w≢t = rw (ne-eqb w t w≢t) refl
 
--- a step ends its session's operation where the drawing's does, and leaves the others'
-under-other : (o : Out) (t : ℕ) (op : Op.Op) (f : ℕ → Op.Op) (w : ℕ) → w ≢ t → underBy (outWord o) t op f w ≡ f w
-under-other working t op f w w≢t = refl
-under-other present t op f w w≢t = at-other f t _ w w≢t
-under-other absent t op f w w≢t = at-other f t _ w w≢t
-under-other full t op f w w≢t = at-other f t _ w w≢t
-under-other (inserted n) t op f w w≢t = at-other f t _ w w≢t
-under-other (removed n) t op f w w≢t = at-other f t _ w w≢t
-under-other (key-value k v) t op f w w≢t = refl
-under-other (ended s given) t op f w w≢t = at-other f t _ w w≢t
+-- an answer leaves what other sessions have under way
+pub under-other : (a : Answer) (t : ℕ) (op : Op.Op) (f : ℕ → Op.Op) (w : ℕ) → w ≢ t → underBy a t op f w ≡ f w
+under-other Answer.Started t op f w w≢t = at-other f t _ w w≢t
+under-other Answer.Working t op f w w≢t = refl
+under-other Answer.Waiting t op f w w≢t = refl
+under-other (Answer.Key k v) t op f w w≢t = refl
+under-other (Answer.Inserted n) t op f w w≢t = at-other f t _ w w≢t
+under-other (Answer.Removed n) t op f w w≢t = at-other f t _ w w≢t
+under-other Answer.Present t op f w w≢t = at-other f t _ w w≢t
+under-other Answer.Absent t op f w w≢t = at-other f t _ w w≢t
+under-other (Answer.End s n) t op f w w≢t = at-other f t _ w w≢t
+under-other (Answer.Refused Refusal.BadSession) t op f w w≢t = refl
+under-other (Answer.Refused Refusal.Busy) t op f w w≢t = refl
+under-other (Answer.Refused Refusal.BadKey) t op f w w≢t = refl
+under-other (Answer.Refused Refusal.BadRange) t op f w w≢t = refl
+under-other (Answer.Refused Refusal.Idle) t op f w w≢t = refl
+under-other (Answer.Refused Refusal.Full) t op f w w≢t = at-other f t _ w w≢t
+under-other (Answer.Refused Refusal.BadTable) t op f w w≢t = refl
+under-other (Answer.Refused Refusal.Damaged) t op f w w≢t = refl
 
+-- and ends its own session's operation where the drawing does
 under-own : (o : Out) (ψ φ : Phase) → Next o ψ φ → (t : ℕ) (op : Op.Op) (f : ℕ → Op.Op)
     → f t ≡ taskWord (task ψ) → underBy (outWord o) t op f t ≡ taskWord (task φ)
 under-own working ψ φ next t op f e = e ∙ ap taskWord (sym next)
@@ -306,7 +316,7 @@ module _ (key val : ℕ → ℕ) (σ : State) (h : Past) (m : Drawing) (S : Show
   under-next w = elim (ℕ-discrete w t) [
     | yes e ↦ rw e (under-own o (m .phase t) φ (task-stays key val empty m t (L .step)) t _ (h .under)
         (S .tells .under t) ∙ ap (λ x. taskWord (task x)) (sym (change-same (m .phase) t φ)))
-    | no w≢t ↦ under-other o t _ (h .under) w w≢t ∙ S .tells .under w
+    | no w≢t ↦ under-other (outWord o) t _ (h .under) w w≢t ∙ S .tells .under w
         ∙ ap (λ x. taskWord (task x)) (sym (change-other (m .phase) t φ w w≢t))
   ]
 
