@@ -33,7 +33,7 @@ use Rattle.loading.specs.declared.Loaded.{Loaded}
 use Rattle.loading.proofs.Trip.{round-trip}
 use Rattle.loaded.specs.Calls.{pairsOf, keysIn, valuesIn}
 use Rattle.loaded.proofs.Loaded.{small-roomy, loaded-set-now}
-use Rattle.reached.specs.Reached.{State, stampOf, opOf, whoOf, answer, Past, Reached}
+use Rattle.reached.specs.Reached.{State, stampOf, whoOf, answer, Past, Reached}
 use Rattle.reached.specs.Answers.{setAt}
 use Rattle.drawing.specs.Drawing.{Drawing}
 use Rattle.drawing.proofs.Ahead.{chain-distinct}
@@ -113,16 +113,16 @@ handed-fine σ h R c t n e =
     let S = seen σ h R in
     let part = within keyOf (d .0) (d .1) (setAt h t) in
     let all : Inside 1 4294967294 (setAt h t) =
-    subst (Inside 1 4294967294) (bounded σ h R t (d .4)) (inside-within 1 4294967294 (setAt h t)) in
+    subst (Inside 1 4294967294) (bounded σ h R t (d .3 .by-now)) (inside-within 1 4294967294 (setAt h t)) in
     record {
-      stamp = omega (arith, d .4, demand-2 .bounds σ h R .1);
+      stamp = omega (arith, d .3 .by-now, demand-2 .bounds σ h R .1);
       few = omega (
         arith,
-        ap length (d .5),
+        ap length (d .3 .keys),
         part-length (d .0) (d .1) (setAt h t),
-        shown-few _ _ σ h (S .0) (S .1) t (d .4),
+        shown-few _ _ σ h (S .0) (S .1) t (d .3 .by-now),
       );
-      inside = subst (Inside 1 4294967294) (sym (d .5))
+      inside = subst (Inside 1 4294967294) (sym (d .3 .keys))
           (part-inside 1 4294967294 (d .0) (d .1) (setAt h t) all);
       rises = handed .rising σ h R (whoOf c);
     }

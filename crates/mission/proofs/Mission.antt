@@ -25,7 +25,8 @@ use Rattle.terms.specs.Terms.{small, soughtOf}
 use Rattle.terms.specs.declared.Op
 use Rattle.terms.specs.declared.Answer.{Answer}
 use Rattle.sixteen.specs.declared.Call.{Call}
-use Rattle.reached.specs.Reached.{State, stampOf, opOf, whoOf, stateIn, go, answer, Past, updateOf, at}
+use Rattle.reached.proofs.History.{at-same}
+use Rattle.reached.specs.Reached.{State, stampOf, whoOf, stateIn, go, answer, Past, updateOf, at}
 use Rattle.reached.specs.Reached.{sinceBy, handedBy, note, InWords, Reached, fresh, on}
 use Rattle.reached.specs.Answers.{setAt, setNow}
 use Rattle.reached.specs.Fair.{AllInWords}
@@ -37,7 +38,7 @@ use Rattle.drawing.specs.Steps.{check-present, check-absent, check-pass, prepar
 use Rattle.drawing.specs.Steps.{number-it, link-it, finish-it, seek-on, seek-present, seek-absent, fix-it, follow-on}
 use Rattle.drawing.specs.Steps.{follow-in, follow-end, hand-out}
 use Rattle.words.proofs.Show.{Agrees, Shown, outWord, Advance, waited, stepped, Advanced}
-use Rattle.words.proofs.Land.{usedOf, no-update, at-same}
+use Rattle.words.proofs.Land.{usedOf, no-update}
 use Rattle.words.proofs.Back.{agree-back}
 use Rattle.words.proofs.Starts.{idle-refused}
 use Rattle.words.proofs.Whole.{step-advances, reached-shown}
@@ -107,14 +108,14 @@ bounded σ h R t t≤now = let d = seen σ h R in shown-whole _ _ σ h (d .0) (d
 same-range : (a b c d : ℕ) → Op.Op.Range a b ≡ Op.Op.Range c d → (a ≡ c) × (b ≡ d)
 same-range a b c d e = (cc, cc)
 
-whole-end : (σ : State) (h : Past) → Reached small σ h → (c : Call) (t n : ℕ) → opOf σ (whoOf c) ≡ whole
+whole-end : (σ : State) (h : Past) → Reached small σ h → (c : Call) (t n : ℕ) → h .under (whoOf c) ≡ whole
     → answer small σ c ≡ Answer.End t n → HandedAll σ h (whoOf c) t n
 whole-end σ h R c t n op e =
     let d = demand-2 .end σ h R c t n e in
     let r = same-range (d .0) (d .1) 1 4294967294 (sym (d .2) ∙ op) in
-    let all : h .handed (whoOf c) ≡ setAt h t = d .5 ∙ ap (λ a. within keyOf a (d .1) (setAt h t)) (r .0)
-    ∙ ap (λ b. within keyOf 1 b (setAt h t)) (r .1) ∙ bounded σ h R t (d .4) in
-    (all, d .6 ∙ ap length all, d .3, d .4)
+    let all : h .handed (whoOf c) ≡ setAt h t = d .3 .keys ∙ ap (λ a. within keyOf a (d .1) (setAt h t)) (r .0)
+    ∙ ap (λ b. within keyOf 1 b (setAt h t)) (r .1) ∙ bounded σ h R t (d .3 .by-now) in
+    (all, d .3 .count ∙ ap length all, d .3 .since-start, d .3 .by-now)
 
 -- ---- A RUN MEETS EACH STAMP ON ITS WAY: no call makes more than one update count
 update-one : (op : Op.Op) → length (updateOf op) ≤ 1
@@ -129,7 +130,7 @@ OneMore old new = (front : List Update) × (new ≡ front ++ old) × (length fro
 
 note-more : (σ : State) (h : Past) (c : Call) → OneMore (h .updates) (note small σ c h .updates)
 note-more σ h c = cond-cases (OneMore (h .updates)) (ltb (stampOf σ) (stampOf (go small σ c))) _ _
-    (λ _. (updateOf (opOf σ (whoOf c)), refl, update-one (opOf σ (whoOf c)))) (λ _. ([], refl, omega arith))
+    (λ _. (updateOf (h .under (whoOf c)), refl, update-one (h .under (whoOf c)))) (λ _. ([], refl, omega arith))
 
 -- one call's stamp: as before, or one more
 stamp-more : (σ : State) (h : Past) → Reached small σ h → (c : Call) → InWords c
@@ -235,10 +236,10 @@ module _ (σ : State) (h : Past) (q low high : ℕ) (calls : List Call) (t n : �
   query-moment =
       let d = demand-2 .end (run σ₁ calls) (pastOf σ₁ h₁ calls) end-reached (Call.Step q) t n (E .ended) in
       let r = same-range (d .0) (d .1) low high (sym (d .2) ∙ E .still) in
-      let w = met σ₁ h₁ start-reached calls (E .in-words .1) t (omega (arith, began-by, d .3)) (d .4) in (
+      let w = met σ₁ h₁ start-reached calls (E .in-words .1) t (omega (arith, began-by, d .3 .since-start)) (d .3 .by-now) in (
         w .0,
         w .1,
-        d .5 ∙ ap (λ a. within keyOf a (d .1) (setAt (pastOf σ₁ h₁ calls) t)) (r .0)
+        d .3 .keys ∙ ap (λ a. within keyOf a (d .1) (setAt (pastOf σ₁ h₁ calls) t)) (r .0)
             ∙ ap (λ b. within keyOf low b (setAt (pastOf σ₁ h₁ calls) t)) (r .1) ∙ ap (within keyOf low high) (w .2),
       )
 
@@ -301,7 +302,7 @@ still σ h R c other =
 
 -- ---- one key
 filed-present : (σ : State) (h : Past) → Reached small σ h → (c : Call) (k v : ℕ)
-    → opOf σ (whoOf c) ≡ Op.Op.Insert k v → answer small σ c ≡ Answer.Present
+    → h .under (whoOf c) ≡ Op.Op.Insert k v → answer small σ c ≡ Answer.Present
     → (member keyOf k (setNow h) ≡ true) × Unmoved σ h c
 filed-present σ h R c k v op a = (
   ap (λ o. member keyOf (soughtOf o) (setNow h)) (sym op) ∙ demand-2 .present σ h R c a,
@@ -312,7 +313,7 @@ same-insert : (a b c d : ℕ) → Op.Op.Insert a b ≡ Op.Op.Insert c d → (a �
 same-insert a b c d e = (cc, cc)
 
 filed-inserted : (σ : State) (h : Past) → Reached small σ h → (c : Call) (k v n : ℕ)
-    → opOf σ (whoOf c) ≡ Op.Op.Insert k v → answer small σ c ≡ Answer.Inserted n → Added h k v n
+    → h .under (whoOf c) ≡ Op.Op.Insert k v → answer small σ c ≡ Answer.Inserted n → Added h k v n
 unfolding setAfter
 filed-inserted σ h R c k v n op a =
     let d = demand-2 .inserted σ h R c n a in

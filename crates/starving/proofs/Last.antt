@@ -12,7 +12,7 @@ use Rattle.sixteen.specs.declared.Call.{Call}
 use Rattle.reached.specs.Reached.{State, whoOf, askedOf, Past}
 use Rattle.reached.specs.Answers.{RangeIs}
 use Rattle.reached.specs.Fair.{Lived, goOn, reply, Open}
-use Rattle.words.proofs.Land.{under-other}
+use Rattle.reached.proofs.History.{under-other}
 use Rattle.words.proofs.Starts.{Begins, begins, refuses-early, start-says}
 use Rattle.words.proofs.Demand2.{demand-2}
 use Rattle.starving.proofs.Reaches.{Reaches}

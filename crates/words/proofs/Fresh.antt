@@ -27,6 +27,7 @@ use Rattle.steps.specs.Steps
 use Rattle.register.specs.declared.Opened.{Opened}
 use Rattle.register.specs.Register.{fits, Fresh, opened, freshNodes, freshEntries, freshCounters, freshOf}
 use Rattle.sixteen.specs.Sixteen.{freshRegister}
+use Rattle.reached.proofs.History.{getD-default}
 use Rattle.reached.specs.Reached.{noPast}
 use Rattle.drawing.specs.Phases.{idle}
 use Rattle.drawing.specs.Drawing.{plainly, final, shown, beginning}
@@ -83,11 +84,6 @@ ready z ns es ns′ es′ c =
     (ready-is z ns es ns′ es′ c) (λ _. not-ready z ns es ns′ es′ c)
 
 -- ---- cleared words
-pub getD-default : {A : Type 0} (n i : ℕ) (a : A) → getD (replicate n a) i a ≡ a
-getD-default zero i a = refl
-getD-default (suc n) zero a = refl
-getD-default (suc n) (suc i) a = getD-default n i a
-
 clear-word : (width : ℕ) (t : List ℕ) (i k : ℕ) → wordOf width (clearOf t) i k ≡ 0
 unfolding wordOf
 clear-word width t i k = getD-default (length t) (i * width + k) 0

@@ -12,7 +12,7 @@ use native.Mathlib.Omega.{arith}
 use lib.ListN.{length, set, length-set}
 use lib.Seq.{getD-set-same, getD-set-other, set-getD}
 use lib.Dec.{ltb}
-use borrow.Author.Tests.{lt-ltb, le-ltb, eq-eqb, ne-eqb}
+use borrow.Author.Tests.{lt-ltb, le-ltb, eq-eqb}
 use Rattle.order.specs.Set.{Pair, Update, insert, remove}
 use Rattle.order.specs.History.{Removed, empty, said}
 use Rattle.terms.specs.Terms.{small}
@@ -30,7 +30,8 @@ use Rattle.register.specs.Register.{fits, stepOf}
 use Rattle.sixteen.specs.declared.Call.{Call}
 use Rattle.sixteen.specs.Sixteen.{Left, served, with, afterStep, sessionOf}
 use Rattle.reached.specs.Reached.{State, stampOf, recordOf, opOf, whoOf, askedOf, stateIn, answerIn, called, go}
-use Rattle.reached.specs.Reached.{answer, Past, updateOf, at, underBy, sinceBy, handedBy, note}
+use Rattle.reached.specs.Reached.{answer, Past, updateOf, underBy, sinceBy, handedBy, note}
+use Rattle.reached.proofs.History.{at-same, at-other, under-other}
 use Rattle.drawing.specs.Phases.{Op, upd, has, range, Phase, idle, walking, locking, lockingCurr, checking, preparing}
 use Rattle.drawing.specs.Phases.{numbering, linking, finishing, seeking, fixing, following, handing, task}
 use Rattle.drawing.specs.Drawing.{change, Drawing, now}
@@ -217,35 +218,7 @@ since-out (removed n) t stamp f = refl
 since-out (key-value k v) t stamp f = refl
 since-out (ended s given) t stamp f = refl
 
-pub at-same : {A : Type 0} (f : ℕ → A) (t : ℕ) (a : A) → at f t a t ≡ a
-unfolding at
-at-same f t a = rw (eq-eqb t t refl) refl
-
-pub at-other : {A : Type 0} (f : ℕ → A) (t : ℕ) (a : A) (w : ℕ) → w ≢ t → at f t a w ≡ f w
-unfolding at
-at-other f t a w w≢t = rw (ne-eqb w t w≢t) refl
-
--- an answer leaves what other sessions have under way
-pub under-other : (a : Answer) (t : ℕ) (op : Op.Op) (f : ℕ → Op.Op) (w : ℕ) → w ≢ t → underBy a t op f w ≡ f w
-under-other Answer.Started t op f w w≢t = at-other f t _ w w≢t
-under-other Answer.Working t op f w w≢t = refl
-under-other Answer.Waiting t op f w w≢t = refl
-under-other (Answer.Key k v) t op f w w≢t = refl
-under-other (Answer.Inserted n) t op f w w≢t = at-other f t _ w w≢t
-under-other (Answer.Removed n) t op f w w≢t = at-other f t _ w w≢t
-under-other Answer.Present t op f w w≢t = at-other f t _ w w≢t
-under-other Answer.Absent t op f w w≢t = at-other f t _ w w≢t
-under-other (Answer.End s n) t op f w w≢t = at-other f t _ w w≢t
-under-other (Answer.Refused Refusal.BadSession) t op f w w≢t = refl
-under-other (Answer.Refused Refusal.Busy) t op f w w≢t = refl
-under-other (Answer.Refused Refusal.BadKey) t op f w w≢t = refl
-under-other (Answer.Refused Refusal.BadRange) t op f w w≢t = refl
-under-other (Answer.Refused Refusal.Idle) t op f w w≢t = refl
-under-other (Answer.Refused Refusal.Full) t op f w w≢t = at-other f t _ w w≢t
-under-other (Answer.Refused Refusal.BadTable) t op f w w≢t = refl
-under-other (Answer.Refused Refusal.Damaged) t op f w w≢t = refl
-
--- and ends its own session's operation where the drawing does
+-- a step ends its own session's operation where the drawing does
 under-own : (o : Out) (ψ φ : Phase) → Next o ψ φ → (t : ℕ) (op : Op.Op) (f : ℕ → Op.Op)
     → f t ≡ taskWord (task ψ) → underBy (outWord o) t op f t ≡ taskWord (task φ)
 under-own working ψ φ next t op f e = e ∙ ap taskWord (sym next)

@@ -26,6 +26,7 @@ use Rattle.steps.specs.Steps
 use Rattle.steps.specs.Steps.{done, arrivedOf, works}
 use Rattle.reading.proofs.Ways
 use Rattle.reached.specs.Reached.{State, recordOf, Past, at, handedBy}
+use Rattle.reached.proofs.History.{at-same}
 use Rattle.drawing.specs.Phases.{Op, upd, has, range, sought, Phase, idle, walking, seeking, fixing, following}
 use Rattle.drawing.specs.Phases.{handing, arrived}
 use Rattle.drawing.specs.Drawing.{shown, Drawing, now}
@@ -36,7 +37,7 @@ use Rattle.drawing.proofs.Inv.{Facts}
 use Rattle.drawing.proofs.Room.{newest-used, follow-used, hand-room}
 use Rattle.drawing.proofs.Goes.{bundle-cases, newest-found, follow-finds}
 use Rattle.words.proofs.Show.{Sinks, opWord, running, Runs, HandedIn, outWord, Shown, Advanced}
-use Rattle.words.proofs.Land.{Busy, NoNumber, at-same, handed-at, quiet}
+use Rattle.words.proofs.Land.{Busy, NoNumber, handed-at, quiet}
 use Rattle.words.proofs.Use.{used-below, named-below, in-table, in-use-covers, in-use-length, inUse}
 use Rattle.words.proofs.Use.{entries-most}
 use Rattle.words.proofs.Steady.{AgreesAfter, actOf, same, acts-by, waits}

@@ -31,6 +31,7 @@ use Rattle.register.specs.Register.{fits, keeps, badKey, began, startOf, stepOf
 use Rattle.sixteen.specs.declared.Call.{Call}
 use Rattle.sixteen.specs.Sixteen.{Left, served, with, afterStep, sessionOf}
 use Rattle.reached.specs.Reached.{State, stampOf, recordOf, stateIn, called, go, answer, Past, note, at, InWords}
+use Rattle.reached.proofs.History.{at-same, at-other}
 use Rattle.drawing.specs.Phases.{Op, upd, has, range, Phase, idle, walking, task}
 use Rattle.drawing.specs.Drawing.{change, Drawing, now}
 use Rattle.drawing.specs.Effects.{stays, begun}
@@ -39,7 +40,7 @@ use Rattle.drawing.proofs.Change.{change-same, change-other}
 use Rattle.drawing.proofs.Keeps.{start-keeps}
 use Rattle.words.proofs.Show.{opWord, taskWord, running, Runs, Cuts, HandedIn, Shown}
 use Rattle.words.proofs.Land.{noteOf, Busy, busy-record, fits-whole, Early, refused, kept, kept-state}
-use Rattle.words.proofs.Land.{no-update, kept-past, unchanged, at-same, at-other, runs-at, handed-at}
+use Rattle.words.proofs.Land.{no-update, kept-past, unchanged, runs-at, handed-at}
 use Rattle.words.proofs.Land.{cuts-kept, no-number, busy-or-idle}
 
 -- ---- what a start answers, whatever the words: started, or a refusal that is neither full nor damaged
