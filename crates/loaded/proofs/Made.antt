@@ -1,18 +1,30 @@
--- Every register made is a reached one with the same updates: what is proved of reached registers holds of fresh and
--- loaded ones alike. Assumes nothing.
+-- Every register made is a reached one with the same updates and the same operations under way: what is proved of
+-- reached registers holds of fresh and loaded ones alike. Assumes nothing.
+use Prim.Native.Nat.{ℕ}
 use mathlib.Core.Path.{_≡_, refl, ap}
 use mathlib.Core.List.{List}
 use Rattle.order.specs.Set.{Update}
 use Rattle.terms.specs.Terms.{small}
-use Rattle.reached.specs.Reached.{State, Past, noPast, note, Reached}
+use Rattle.terms.specs.declared.Op.{Op}
+use Rattle.sixteen.specs.declared.Call.{Call}
+use Rattle.reached.specs.Reached.{State, whoOf, askedOf, answer, Past, noPast, underBy, note, Reached}
 use Rattle.reached.specs.Reached.{fresh as reached-fresh, on as reached-on}
-use Rattle.loaded.specs.Made.{updatesBy, Made, fresh, loaded, on}
+use Rattle.loaded.specs.Made.{Made, fresh, loaded, on}
 use Rattle.loaded.proofs.Loaded.{loaded-reached}
 
-pub made-reached : {σ : State} {us : List Update} → Made small σ us →
-    (h : Past) × Reached small σ h × (h .updates ≡ us)
-made-reached (fresh ns es ns′ es′ c opens) = (noPast, reached-fresh ns es ns′ es′ c opens, refl)
+-- the updates after a call, by the updates before it and the operations under way
+note-same : (σ : State) (c : Call) (h k : Past) → h .updates ≡ k .updates → h .under ≡ k .under →
+    note small σ c h .updates ≡ note small σ c k .updates
+note-same σ c h k same-updates same-under = rw (same-updates, same-under) refl
+
+pub made-reached : {σ : State} {k : Past} → Made small σ k →
+    (h : Past) × Reached small σ h × (h .updates ≡ k .updates) × (h .under ≡ k .under)
+made-reached (fresh ns es ns′ es′ c opens) = (noPast, reached-fresh ns es ns′ es′ c opens, refl, refl)
 made-reached (loaded s ns es ns′ es′ c told) = loaded-reached s ns es ns′ es′ c told
-made-reached (on {σ} {us} made c words) =
-    let r = made-reached made in
-    (note small σ c (r .0), reached-on (r .1) c words, ap (updatesBy small σ c) (r .2))
+made-reached (on {σ} {h} made c words) =
+    let r = made-reached made in (
+      note small σ c (r .0),
+      reached-on (r .1) c words,
+      note-same σ c (r .0) h (r .2) (r .3),
+      ap (underBy (answer small σ c) (whoOf c) (askedOf c)) (r .3),
+    )
