@@ -1,11 +1,7 @@
 -- Every register made is a reached one with the same updates and the same operations under way: what is proved of
 -- reached registers holds of fresh and loaded ones alike. Assumes nothing.
-use Prim.Native.Nat.{ℕ}
 use mathlib.Core.Path.{_≡_, refl, ap}
-use mathlib.Core.List.{List}
-use Rattle.order.specs.Set.{Update}
 use Rattle.terms.specs.Terms.{small}
-use Rattle.terms.specs.declared.Op.{Op}
 use Rattle.sixteen.specs.declared.Call.{Call}
 use Rattle.reached.specs.Reached.{State, whoOf, askedOf, answer, Past, noPast, underBy, note, Reached}
 use Rattle.reached.specs.Reached.{fresh as reached-fresh, on as reached-on}

@@ -42,7 +42,7 @@ use Rattle.words.proofs.Land.{usedOf, no-update}
 use Rattle.words.proofs.Back.{agree-back}
 use Rattle.words.proofs.Starts.{idle-refused}
 use Rattle.words.proofs.Whole.{step-advances, reached-shown}
-use Rattle.words.proofs.Demand2.{demand-2, seen}
+use Rattle.words.proofs.Demand2.{demand-2, seen, range-end}
 use Rattle.mission.specs.Mission.{whole, Moment, stampThen, setThen, begun, begunPast, Ends, list}
 use Rattle.mission.specs.Mission.{HadMoment, HandedAll, Quiet, Unmoved, Added}
 use Rattle.mission.specs.Mission.{OneMoment, OneKey, Handed}
@@ -105,17 +105,12 @@ pub bounded : (σ : State) (h : Past) → Reached small σ h → (t : ℕ) → t
 bounded σ h R t t≤now = let d = seen σ h R in shown-whole _ _ σ h (d .0) (d .1) t t≤now
 
 -- ---- a whole range's end
-same-range : (a b c d : ℕ) → Op.Op.Range a b ≡ Op.Op.Range c d → (a ≡ c) × (b ≡ d)
-same-range a b c d e = (cc, cc)
-
 whole-end : (σ : State) (h : Past) → Reached small σ h → (c : Call) (t n : ℕ) → h .under (whoOf c) ≡ whole
     → answer small σ c ≡ Answer.End t n → HandedAll σ h (whoOf c) t n
 whole-end σ h R c t n op e =
-    let d = demand-2 .end σ h R c t n e in
-    let r = same-range (d .0) (d .1) 1 4294967294 (sym (d .2) ∙ op) in
-    let all : h .handed (whoOf c) ≡ setAt h t = d .3 .keys ∙ ap (λ a. within keyOf a (d .1) (setAt h t)) (r .0)
-    ∙ ap (λ b. within keyOf 1 b (setAt h t)) (r .1) ∙ bounded σ h R t (d .3 .by-now) in
-    (all, d .3 .count ∙ ap length all, d .3 .since-start, d .3 .by-now)
+    let d = range-end σ h R c 1 4294967294 t n op e in
+    let all : h .handed (whoOf c) ≡ setAt h t = d .keys ∙ bounded σ h R t (d .by-now) in
+    (all, d .count ∙ ap length all, d .since-start, d .by-now)
 
 -- ---- A RUN MEETS EACH STAMP ON ITS WAY: no call makes more than one update count
 update-one : (op : Op.Op) → length (updateOf op) ≤ 1
@@ -234,14 +229,10 @@ module _ (σ : State) (h : Past) (q low high : ℕ) (calls : List Call) (t n : �
 
   query-moment : HadMoment σ h q low high calls t
   query-moment =
-      let d = demand-2 .end (run σ₁ calls) (pastOf σ₁ h₁ calls) end-reached (Call.Step q) t n (E .ended) in
-      let r = same-range (d .0) (d .1) low high (sym (d .2) ∙ E .still) in
-      let w = met σ₁ h₁ start-reached calls (E .in-words .1) t (omega (arith, began-by, d .3 .since-start)) (d .3 .by-now) in (
-        w .0,
-        w .1,
-        d .3 .keys ∙ ap (λ a. within keyOf a (d .1) (setAt (pastOf σ₁ h₁ calls) t)) (r .0)
-            ∙ ap (λ b. within keyOf low b (setAt (pastOf σ₁ h₁ calls) t)) (r .1) ∙ ap (within keyOf low high) (w .2),
-      )
+      let d = range-end (run σ₁ calls) (pastOf σ₁ h₁ calls) end-reached (Call.Step q) low high t n (E .still)
+      (E .ended) in
+      let w = met σ₁ h₁ start-reached calls (E .in-words .1) t (omega (arith, began-by, d .since-start)) (d .by-now) in
+      (w .0, w .1, d .keys ∙ ap (within keyOf low high) (w .2))
 
 -- ---- ONLY WORKING MAKES AN UPDATE COUNT
 module _ (key val : ℕ → ℕ) (m : Drawing) (t : ℕ) where

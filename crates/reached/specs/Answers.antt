@@ -8,7 +8,7 @@ use mathlib.Core.Bool.{true, false}
 use mathlib.Core.List.{List, [], _∷_, _++_}
 use lib.ListN.{length}
 use Rattle.order.specs.Set.{Pair, keyOf, within, member, Update, insert, remove, setAfter, first}
-use Rattle.terms.specs.Terms.{small, soughtOf, highOf, Refuses}
+use Rattle.terms.specs.Terms.{small, soughtOf, Refuses}
 use Rattle.terms.specs.declared.Op.{Op}
 use Rattle.terms.specs.declared.Answer.{Answer}
 use Rattle.steps.specs.declared.Phase.{Phase}

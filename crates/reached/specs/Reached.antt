@@ -6,7 +6,7 @@
 -- Not here: a register read from a listing, which is a reached one by theorem. Assumes nothing.
 use Prim.Native.Nat.{ℕ, _≤_}
 use mathlib.Core.Path.{_≡_}
-use mathlib.Core.Bool.{Bool, cond}
+use mathlib.Core.Bool.{cond}
 use mathlib.Core.List.{List, [], _∷_, _++_}
 use lib.Dec.{ltb, eqb}
 use Rattle.order.specs.Set.{Pair, Update, insert, remove}

@@ -2,7 +2,7 @@
 -- least 16, round robin over the sixteen sessions is fair.
 -- In order: the schedule; it is fair; the premise, and demand 3 of it.
 -- Not here: the demand. Assumes nothing.
-use Prim.Native.Nat.{ℕ, zero, suc, _%_, _≤_}
+use Prim.Native.Nat.{ℕ, zero, suc, _≤_}
 use mathlib.Core.Path.{refl}
 use mathlib.Core.List.{List}
 use Rattle.nodes.specs.Nodes.{keyAt, valueAt}

@@ -1,14 +1,14 @@
 -- The words of a fresh register show the beginning of the drawing, with the empty set at stamp 0.
 -- In order: what a fresh register's words are; its two nodes; its one entry; all of it.
 -- Not here: any call. Assumes nothing.
-use Prim.Native.Nat.{ℕ, zero, suc, _+_, _*_, _<_}
+use Prim.Native.Nat.{ℕ, _+_, _*_, _<_}
 use mathlib.Core.Path.{_≡_, refl, sym, _∙_, ap}
 use mathlib.Core.Logic.{_⊎_, inl, inr, _≢_}
 use mathlib.Core.Bool.{Bool, true, false, cond, _&&_}
 use mathlib.Core.List.{List, [], _∷_, List·Memᴰ, List·Memᴰ·not-nil}
 use native.Mathlib.Decide.{ℕ-discrete}
 use native.Mathlib.Omega.{arith}
-use lib.ListN.{length, getD, replicate, length-replicate}
+use lib.ListN.{length, length-replicate}
 use lib.Dec.{eqb}
 use borrow.Author.Tests.{ne-eqb, eqb-true}
 use Rattle.table.specs.Table.{wordOf, clearOf}
@@ -27,8 +27,8 @@ use Rattle.steps.specs.Steps
 use Rattle.register.specs.declared.Opened.{Opened}
 use Rattle.register.specs.Register.{fits, Fresh, opened, freshNodes, freshEntries, freshCounters, freshOf}
 use Rattle.sixteen.specs.Sixteen.{freshRegister}
-use Rattle.reached.proofs.History.{getD-default}
 use Rattle.reached.specs.Reached.{noPast}
+use Rattle.reached.proofs.History.{getD-default}
 use Rattle.drawing.specs.Phases.{idle}
 use Rattle.drawing.specs.Drawing.{plainly, final, shown, beginning}
 use Rattle.drawing.proofs.Begin.{begin-empty}
