@@ -1,7 +1,7 @@
 -- DEMAND 3: no range query is starved; and the sharper bound.
 -- In order: calls to a register with its drawing, at a query's start: fair while it is open; while it is open, or by
--- its end; the call that ends it; the sharper bound. Then that register, by key and value functions from the words
--- at the end of the calls; the demand, and the sharper bound.
+-- its end; that the call that ends it answers end; the sharper bound. Then that register, by key and value functions
+-- from the words at the end of the calls; its last call; the demand, and the sharper bound.
 -- Not here: the demand's sentences (crate reached). Assumes nothing.
 use Prim.Native.Nat.{ℕ, _+_, _*_, _≤_, _<_}
 use mathlib.Core.Path.{_≡_, refl, sym, _∙_, ap, subst}
@@ -26,7 +26,7 @@ use Rattle.words.proofs.Back.{agree-back}
 use Rattle.pace.specs.Turns.{IsOpen, IsBusy}
 use Rattle.pace.proofs.Demand.{range-demand, range-sharp}
 use Rattle.pace.proofs.Project.{after-project, along-up, steps-project, fair-up, open-or-ended-down}
-use Rattle.starving.proofs.Reaches.{calls-reach, words-front}
+use Rattle.starving.proofs.Reaches.{Reaches, calls-reach, words-front}
 use Rattle.starving.proofs.Last.{ends-right}
 use Rattle.starving.proofs.Live.{Live, reached-live, Walks, begins}
 use Rattle.starving.proofs.Where.{along-where, fair-where, open-or-ended-where}
@@ -161,16 +161,17 @@ module _ (l : Lived) (q low high : ℕ) (B : Begins l q low high) (w : ℕ) (cal
   good = good-along key val (live (walks .0)) calls tt all-words agrees
 
   -- its last call
+  reached-till : (d : Ended goOn (Open q low high) first calls) → Reaches (after goOn first (d .lived))
+  reached-till d = calls-reach first (on (B .reached) (Call.Start q (Op.Range low high)) (B .in-words)) (d .lived)
+      (words-front (d .lived) (d .last ∷ d .later) (rw (d .whole) at all-words))
+
   ended : EndsWell l q low high w calls
   ended d =
-      let τ = after goOn first (d .lived) in
-      let words = words-front (d .lived) (d .last ∷ d .later) (rw (d .whole) at all-words) in
-      let reached = calls-reach first (on (B .reached) (Call.Start q (Op.Range low high)) (B .in-words)) (d .lived)
-      words in
       let a = answers-end key val (before .shown .head-key) q low high w (live (walks .0)) (walks .1) (walks .2)
       calls good d in
-      let r = ends-right τ q low high (along-last goOn (Open q low high) first (d .lived) (d .open-till)) reached
-      (d .last) (d .shut) (a .0) (a .1) (a .2) in
+      let r = ends-right (after goOn first (d .lived)) q low high
+      (along-last goOn (Open q low high) first (d .lived) (d .open-till)) (reached-till d) (d .last) (d .shut)
+      (a .0) (a .1) (a .2) in
       (r .0, a .0, a .1, a .2, r .1)
 
   meets : FairFor l q low high w calls → InTime l q low high w calls × EndsWell l q low high w calls
