@@ -1,26 +1,30 @@
--- Every register made is a reached one with the same updates and the same operations under way: what is proved of
+-- Every register made is a reached one with a history that tells the same of all that is under way: what is proved of
 -- reached registers holds of fresh and loaded ones alike. Assumes nothing.
-use mathlib.Core.Path.{_≡_, refl, ap}
+use mathlib.Core.Path.{refl}
 use Rattle.terms.specs.Terms.{small}
-use Rattle.sixteen.specs.declared.Call.{Call}
-use Rattle.reached.specs.Reached.{State, whoOf, askedOf, answer, Past, noPast, underBy, note, Reached}
+use Rattle.reached.specs.Reached.{State, Past, noPast, note, Reached}
 use Rattle.reached.specs.Reached.{fresh as reached-fresh, on as reached-on}
-use Rattle.loaded.specs.Made.{Made, fresh, loaded, on}
+use Rattle.loaded.specs.Made.{Made, fresh, loaded, on, Alike}
 use Rattle.loaded.proofs.Loaded.{loaded-reached}
+use Rattle.loaded.proofs.Alike.{alike-on}
 
--- the updates after a call, by the updates before it and the operations under way
-note-same : (σ : State) (c : Call) (h k : Past) → h .updates ≡ k .updates → h .under ≡ k .under →
-    note small σ c h .updates ≡ note small σ c k .updates
-note-same σ c h k same-updates same-under = rw (same-updates, same-under) refl
-
-pub made-reached : {σ : State} {k : Past} → Made small σ k →
-    (h : Past) × Reached small σ h × (h .updates ≡ k .updates) × (h .under ≡ k .under)
-made-reached (fresh ns es ns′ es′ c opens) = (noPast, reached-fresh ns es ns′ es′ c opens, refl, refl)
-made-reached (loaded s ns es ns′ es′ c told) = loaded-reached s ns es ns′ es′ c told
-made-reached (on {σ} {h} made c words) =
-    let r = made-reached made in (
-      note small σ c (r .0),
-      reached-on (r .1) c words,
-      note-same σ c (r .0) h (r .2) (r .3),
-      ap (underBy (answer small σ c) (whoOf c) (askedOf c)) (r .3),
+pub made-reached : {σ : State} {k : Past} → Made small σ k → (h : Past) × Reached small σ h × Alike h k
+made-reached (fresh ns es ns′ es′ c opens) = (
+  noPast,
+  reached-fresh ns es ns′ es′ c opens,
+  record { updates = refl; under = refl; since = λ _ _. refl; handed = λ _ _. refl },
+)
+made-reached (loaded s ns es ns′ es′ c told) =
+    let r = loaded-reached s ns es ns′ es′ c told in (
+      r .0,
+      r .1,
+      record {
+        updates = r .2;
+        under = r .3;
+        since = λ _ some-op. absurd (some-op refl);
+        handed = λ _ some-op. absurd (some-op refl);
+      },
     )
+made-reached (on {σ} {h} made c words) =
+    let r = made-reached made in
+    (note small σ c (r .0), reached-on (r .1) c words, alike-on σ c (r .0) h (r .2))

@@ -1,9 +1,11 @@
 -- A register that is fresh or was read from a listing, and went on by starts and steps (demands 2 and 3), with its
 -- history: for one read from a listing, the inserts of its keys are the updates so far, and no session has anything
 -- under way.
--- Not here: that each is a reached one with those updates (proofs/Made.antt). Assumes nothing.
+-- In order: a listing's history; registers made; histories that tell the same of what is under way.
+-- Not here: that each is a reached one with such a history (proofs/Made.antt). Assumes nothing.
 use Prim.Native.Nat.{ℕ}
 use mathlib.Core.Path.{_≡_}
+use mathlib.Core.Logic.{_≢_}
 use mathlib.Core.List.{List, []}
 use Rattle.terms.specs.declared.Size.{Size}
 use Rattle.terms.specs.declared.Counters.{Counters}
@@ -33,3 +35,10 @@ pub data Made (z : Size) : State → Past → Type 0 where
       loadOf z s ns es ≡ done (tables ns′ es′) (Loaded.Register c) →
       Made z (record { nodes = ns′; entries = es′; register = freshRegister c }) (listedPast s)
   on : {σ : State} {h : Past} → Made z σ h → (c : Call) → InWords c → Made z (go z σ c) (note z σ c h)
+
+-- ---- the same updates and operations under way; and of those, the same stamps at the start and keys handed out
+pub record Alike (h k : Past) : Type 0 where
+  pub updates : h .updates ≡ k .updates
+  pub under : h .under ≡ k .under
+  pub since : (who : ℕ) → k .under who ≢ Op.None → h .since who ≡ k .since who
+  pub handed : (who : ℕ) → k .under who ≢ Op.None → h .handed who ≡ k .handed who
