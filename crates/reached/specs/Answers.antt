@@ -1,7 +1,8 @@
 -- Demand 2 in one record: each answer of a reached register is the ordered set's, at the step that document 01 names.
 -- In order: the set; an update with its number; a range at its end, and one in its snapshot; the fields, a sentence
 -- each.
--- It speaks of calls, answers, the history that they give, and document 002's set. Assumes nothing.
+-- It speaks of calls, answers, the history that they give, counters, and document 002's set; `so-far` alone reads a
+-- record, for the snapshot, which no answer tells before the end. Assumes nothing.
 use Prim.Native.Nat.{ℕ, suc, _≤_, _<_}
 use mathlib.Core.Path.{_≡_}
 use mathlib.Core.Bool.{true, false}
