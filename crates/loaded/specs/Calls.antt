@@ -1,7 +1,7 @@
 -- The calls of session 0 that insert keys in order, each above all before it, and what calls leave.
 -- In order: the calls; their answers; the updates, and the pairs; a listing's keys and values, and the empty listing;
--- the history and the answers of any calls; a register whose session 0 runs alone, and a fresh one; what calls do, in
--- one record.
+-- the history and the answers of any calls; a register whose session 0 runs alone, and a fresh one; a history that
+-- knows what sessions run; what calls do, in one record.
 -- Not here: that a loaded register is what they leave (proofs/). Assumes nothing.
 use Prim.Native.Nat.{ℕ, _+_}
 use mathlib.Core.Path.{_≡_}

@@ -38,7 +38,7 @@ recordOf σ who = sessionOf (σ .register .sessions) who
 abbrev pub opOf : State → ℕ → Op
 opOf σ who = recordOf σ who .op
 
--- ---- a call: whose it is, the operation that it asks for, what it leaves, and its answer
+-- ---- a call: whose it is, the operation that it asks for (a step asks for none), what it leaves, and its answer
 abbrev pub whoOf : Call → ℕ
 whoOf (Call.Start who op) = who
 whoOf (Call.Step who) = who
