@@ -165,7 +165,7 @@ broken = record {
 }
 
 pub broken-no-inv : ¬ Inv key val empty broken
-broken-no-inv I = omega (arith, I .links head (inl refl) .0)
+broken-no-inv I = omega (arith, I .own .links head (inl refl) .0)
 
 -- ---- a finished insert whose node keeps an empty row: a range at snapshot 1 would find no entry
 abbrev unlinked : Drawing

@@ -1,27 +1,33 @@
 -- Every reached drawing has the invariant, answers right, is not stuck, and has a list of the nodes given.
 -- Assumes nothing.
-use mathlib.Core.Path.{_≡_}
+use mathlib.Core.Path.{_≡_, refl}
 use mathlib.Core.Logic.{_⊎_}
 use mathlib.Core.List.{List}
 use Prim.Native.Nat.{ℕ}
 use Rattle.order.specs.History.{Start, InOrder}
+use Rattle.order.specs.Shape.{ReachedBy, begun, gone-on}
+use Rattle.order.proofs.Shape.{shape-history}
 use Rattle.drawing.specs.Phases.{Phase, idle}
 use Rattle.drawing.specs.Drawing.{Drawing}
 use Rattle.drawing.specs.Effects.{Effect, givenBy}
 use Rattle.drawing.specs.Steps.{Out, Step, Waits, Reached, begins, started, stepped}
 use Rattle.drawing.specs.Answers.{Right}
 use Rattle.drawing.proofs.Inv.{Inv}
-use Rattle.drawing.proofs.Keeps.{start-keeps, step-keeps}
-use Rattle.drawing.proofs.Begin.{begin-inv}
+use Rattle.drawing.proofs.Shape.{GoesOn, starting, stepping, list-shape}
 use Rattle.drawing.proofs.Answers.{answers}
 use Rattle.drawing.proofs.Goes.{Goes, goes-or-waits}
 use Rattle.drawing.proofs.Given.{Listed, listed-beginning, listed-start, listed-step}
 
 module _ (key val : ℕ → ℕ) (start : Start) (in-order : InOrder key start) where
+  -- the list's shape reaches it
+  reached-by : {m : Drawing} → Reached key val start m → ReachedBy (list-shape key val start) m
+  reached-by begins = begun refl
+  reached-by (started t r s) = gone-on (reached-by r) (starting t s)
+  reached-by (stepped t r s) = gone-on (reached-by r) (stepping t s)
+
+  -- ---- THE INVARIANT, AND SO THE HISTORY, OF EVERY REACHED DRAWING
   pub reached-inv : {m : Drawing} → Reached key val start m → Inv key val start m
-  reached-inv begins = begin-inv key val start in-order
-  reached-inv (started {m} t r s) = start-keeps key val start m (reached-inv r) t s
-  reached-inv (stepped {m} t r s) = step-keeps key val start m (reached-inv r) t s
+  reached-inv r = shape-history (list-shape key val start) in-order (reached-by r)
 
   pub reached-answers : {m : Drawing} → Reached key val start m → (t : ℕ) {o : Out} {f : Effect} {φ : Phase} →
       Step key val start t m o f φ → Right key val start m t o
