@@ -13,7 +13,7 @@ use Rattle.drawing.specs.Effects.{Effect, givenBy}
 use Rattle.drawing.specs.Steps.{Out, Step, Waits, Reached, begins, started, stepped}
 use Rattle.drawing.specs.Answers.{Right}
 use Rattle.drawing.proofs.Inv.{Inv}
-use Rattle.drawing.proofs.Shape.{GoesOn, starting, stepping, list-shape}
+use Rattle.drawing.proofs.Shape.{starting, stepping, list-shape}
 use Rattle.drawing.proofs.Answers.{answers}
 use Rattle.drawing.proofs.Goes.{Goes, goes-or-waits}
 use Rattle.drawing.proofs.Given.{Listed, listed-beginning, listed-start, listed-step}
