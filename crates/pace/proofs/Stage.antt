@@ -74,7 +74,7 @@ module _ (key val : ℕ → ℕ) (start : Start) where
         stageOf m′ I′ t ≡ stageOf m I t
     stage-kept I I′ same = subst
         (λ φ. (F : Facts key val start m t φ) → stageOf m′ I′ t ≡ stageIn m t φ F) same
-        (λ F. stage-same (m′ .phase t) F (I′ .facts t)) (I .own .facts t)
+        (λ F. stage-same (m′ .phase t) F (I′ .own .facts t)) (I .own .facts t)
 
   -- whatever facts of its phase are taken
   pub stage-in : (m : Drawing) (I : Inv key val start m) (t : ℕ) (φ : Phase) → m .phase t ≡ φ →

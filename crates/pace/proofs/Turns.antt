@@ -207,7 +207,7 @@ module _ (key val : ℕ → ℕ) (start : Start) (zeroth : key head ≡ 0) (q lo
     -- the facts of the phase after it
     its-after : (φ : Phase) → Inv key val start (after start m q stays φ) →
         Facts key val start (after start m q stays φ) q φ
-    its-after φ I′ = rw (change-same (m .phase) q φ) at (I′ .facts q)
+    its-after φ I′ = rw (change-same (m .phase) q φ) at (I′ .own .facts q)
 
     after-in : (φ : Phase) (I′ : Inv key val start (after start m q stays φ)) →
         stageOf key val start (after start m q stays φ) I′ q

@@ -80,7 +80,8 @@ module _ {key val : ℕ → ℕ} {σ : State} {h : Past} {m : Drawing} {t : ℕ}
   -- it is locked by this session, so no other has laid its remove
   not-being-cut : ¬ BeingCut m q
   not-being-cut (w, k₂, p₂, z₂, c₂, d) =
-      let G : Facts key val empty m w (numbering (remove k₂) p₂ q z₂ c₂) = rw d at (shown-inv (T .shown) .own .facts w) in
+      let G : Facts key val empty m w (numbering (remove k₂) p₂ q z₂ c₂) =
+      rw d at (shown-inv (T .shown) .own .facts w) in
       let w≡t : w ≡ t = some-same (G .0 .lock-y) (F .1 .lock-y) in
       no-number (preparing (remove k) p q) (remove k₂) p₂ q z₂ c₂ (sym e ∙ ap (m .phase) (sym w≡t) ∙ d) tt
 

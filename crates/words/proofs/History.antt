@@ -144,7 +144,8 @@ module _ (key val : ℕ → ℕ) (σ : State) (h : Past) (m : Drawing) (S : Show
   follow-part : (t low high x s : ℕ) (given : List Pair) → m .phase t ≡ following low high x s given
       → Part t low high s
   follow-part t low high x s given e =
-      let f = handed-first key val empty m (shown-inv S) t low high x s given (fact t (following low high x s given) e) in (
+      let f = handed-first key val empty m (shown-inv S) t low high x s given
+      (fact t (following low high x s given) e) in (
         f .0,
         ap (λ l. l ++ f .0) (handed-is t (following low high x s given) e)
             ∙ same-set low high s (given ++ f .0) (f .1 .right),

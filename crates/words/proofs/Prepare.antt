@@ -82,7 +82,8 @@ module _ {key val : ℕ → ℕ} {σ : State} {h : Past} {m : Drawing} {t : ℕ}
       by : (o : Option ℕ) → m .lock (usedOf σ) ≡ o → m .lock (usedOf σ) ≡ none
       by none e = e
       by (some w) e =
-          absurd (omega (arith, at-below key val σ h m (T .shown) (usedOf σ) (shown-inv (T .shown) .own .held w (usedOf σ) e .1)))
+          let there = shown-inv (T .shown) .own .held w (usedOf σ) e .1 in
+          absurd (omega (arith, at-below key val σ h m (T .shown) (usedOf σ) there))
 
   -- ---- the functions agree with what the step left
   agrees-left : {φ : Phase} → m .phase t ≡ φ → Busy φ → (ns es : List ℕ) (r : Stepped) → Acts σ t ns es r
