@@ -5,7 +5,7 @@ use mathlib.Core.Path.{_≡_, refl, sym, _∙_, ap}
 use mathlib.Core.Logic.{_⊎_, inl, inr, ⊎-elim, ⊎-map, _≢_}
 use mathlib.Core.Option.{none, some}
 use mathlib.Core.List.{[], _∷_, List·Memᴰ, List·Memᴰ·head, List·Memᴰ·tail, List·Memᴰ·cases-cons}
-use Prim.Native.Nat.{ℕ, suc, _-_, _≤_, _<_}
+use Prim.Native.Nat.{ℕ, suc, _-_, _<_}
 use native.Mathlib.Decide.{ℕ-discrete}
 use native.Mathlib.Omega.{arith}
 use Rattle.order.specs.Set.{Update, insert, remove}
@@ -17,7 +17,7 @@ use Rattle.order.proofs.Chains.{chain-split, by-key}
 use Rattle.order.proofs.Steps.{given-more, given-ins, given-rem}
 use Rattle.order.proofs.Keeps.{upTo-old, upTo-all, stamp-next, current}
 use Rattle.order.proofs.Near.{link-between, set-lacks, set-has}
-use Rattle.drawing.specs.Phases.{Phase, numbering, linking, keyIn, predTarget, nodeTarget, oldNext, logged}
+use Rattle.drawing.specs.Phases.{Phase, numbering, linking, keyIn, predTarget, nodeTarget, logged}
 use Rattle.drawing.specs.Drawing.{final, pending, Drawing, now}
 use Rattle.drawing.specs.Effects.{numbers, after}
 use Rattle.drawing.specs.Answers.{inSet, wasThere, Numbered}

@@ -52,8 +52,8 @@ module _ (key val : ℕ → ℕ) (start : Start) (t : ℕ) (m : Drawing) (I : In
         leads = d .1;
         above-pred = F .2 .low;
         below-curr = F .2 .up;
-        unlinked = row-fresh key start (m .rows) (m .log) (I .hist) y (λ e. out (inl (inl e))) (λ i. out (inl (inr
-            i)));
+        unlinked = row-fresh key start (m .rows) (m .log) (I .hist) y (λ e. out (inl (inl e)))
+            (λ i. out (inl (inr i)));
       }
 
   pub may-remove : (k p y z c : ℕ) → Facts key val start m t (numbering (remove k) p y z c)

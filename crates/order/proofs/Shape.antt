@@ -1,12 +1,11 @@
 -- Whatever a shape reaches has the history: every snapshot up to its stamp shows its set.
 -- In order: what is numbered keeps it; the beginning; one step; all that is reached.
--- An insert and a remove keep it by Keeps, which this module alone uses. Assumes nothing.
-use mathlib.Core.Path.{_≡_}
-use mathlib.Core.List.{[]}
+-- That an insert and a remove keep it (Keeps) is used here alone. Assumes nothing.
 use Prim.Native.Nat.{ℕ}
 use Rattle.order.specs.Rows.{Row}
-use Rattle.order.specs.History.{Log, Start, InOrder, rowsFrom, History}
-use Rattle.order.specs.Shape.{Numbers, nothing, an-insert, a-remove, Shape, Holds, ReachedBy, begun, gone-on}
+use Rattle.order.specs.History.{Log, Start, InOrder, History}
+use Rattle.order.specs.Shape.{Numbers, nothing, an-insert, a-remove, Shape, Holds, ReachedBy, at-beginning}
+use Rattle.order.specs.Shape.{gone-on}
 use Rattle.order.proofs.Keeps.{history-begins, history-insert, history-remove}
 
 pub numbers-keep : {key : ℕ → ℕ} {start : Start} {rows rows′ : ℕ → Row} {log log′ : Log}
@@ -30,5 +29,5 @@ module _ {key : ℕ → ℕ} {start : Start} (S : Shape key start) where
   shape-goes {σ} {τ} K g = record { hist = numbers-keep (K .hist) (S .numbers σ τ g K); own = S .keeps σ τ g K }
 
   pub shape-history : InOrder key start → {σ : S .State} → ReachedBy S σ → Holds S σ
-  shape-history order (begun b) = shape-begins order b
+  shape-history order (at-beginning b) = shape-begins order b
   shape-history order (gone-on r g) = shape-goes (shape-history order r) g

@@ -62,5 +62,5 @@ module _ {key : ℕ → ℕ} {start : Start} (S : Shape key start) where
 
   -- ---- what it reaches
   pub data ReachedBy : S .State → Type 0 where
-    begun : {σ : S .State} → S .Begins σ → ReachedBy σ
+    at-beginning : {σ : S .State} → S .Begins σ → ReachedBy σ
     gone-on : {σ τ : S .State} → ReachedBy σ → S .Goes σ τ → ReachedBy τ

@@ -36,8 +36,8 @@ use Rattle.drawing.specs.Phases.{numbering, linking, finishing, seeking, fixing
 use Rattle.drawing.specs.Drawing.{change, Drawing, now}
 use Rattle.drawing.specs.Effects.{Effect, stays, logBy, after}
 use Rattle.drawing.specs.Steps.{Out, working, present, absent, full, inserted, removed, key-value, ended, Step, Waits}
+use Rattle.drawing.specs.Steps.{stepping}
 use Rattle.drawing.proofs.Change.{change-same, change-other}
-use Rattle.drawing.proofs.Shape.{stepping}
 use Rattle.words.proofs.Show.{Agrees, Nodes, Rows, running, Runs, BeingCut, Cuts, HandedIn, Tells, Shown}
 use Rattle.words.proofs.Show.{outWord, waited, stepped, Advanced}
 

@@ -35,9 +35,8 @@ use Rattle.reached.specs.Reached.{State, stampOf, recordOf, stateIn, called, go
 use Rattle.drawing.specs.Phases.{Op, upd, has, range, Phase, idle, walking}
 use Rattle.drawing.specs.Drawing.{change, Drawing, now}
 use Rattle.drawing.specs.Effects.{stays, begun}
-use Rattle.drawing.specs.Steps.{Fine, Starts, starts}
+use Rattle.drawing.specs.Steps.{Fine, Starts, starts, starting}
 use Rattle.drawing.proofs.Change.{change-same, change-other}
-use Rattle.drawing.proofs.Shape.{starting}
 use Rattle.words.proofs.Show.{opWord, running, Runs, Cuts, HandedIn, Shown}
 use Rattle.words.proofs.Land.{noteOf, Busy, busy-record, fits-whole, refused, kept, kept-state}
 use Rattle.words.proofs.Land.{no-update, kept-past, unchanged, at-same, at-other, runs-at, handed-at}
