@@ -1,6 +1,6 @@
 -- Every reached drawing answers right, is not stuck, and has a list of the nodes given.
 -- Not here: that it has the invariant (Shape). Assumes nothing.
-use mathlib.Core.Path.{_≡_, refl}
+use mathlib.Core.Path.{_≡_}
 use mathlib.Core.Logic.{_⊎_}
 use mathlib.Core.List.{List}
 use Prim.Native.Nat.{ℕ}
