@@ -1,5 +1,6 @@
 -- What it is that the words of a register show a drawing.
--- In order: words of locks and marks; nodes; rows; a session's record; entries used; the history; all of it; one step.
+-- In order: words of locks and marks; nodes; rows; a session's record; entries used; the history; all of it, and the
+-- invariant with it; one step.
 -- `key` and `val` are any functions that agree with the words of the nodes in use. `own x` lists the entry numbers of
 -- the row of node x, newest first. Not here: that steps keep it. Assumes nothing.
 use Prim.Native.Nat.{ℕ, _+_, _*_, _≤_, _<_}
