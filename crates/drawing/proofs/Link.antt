@@ -1,4 +1,4 @@
--- Link and Finish keep the invariant.
+-- Link and Finish keep the list's own.
 -- In order: the mark; Link; Finish.
 -- Assumes nothing.
 use mathlib.Core.Path.{_≡_, refl, sym, _∙_, ap}

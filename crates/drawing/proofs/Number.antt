@@ -1,4 +1,4 @@
--- Number keeps what the list keeps of its own: the log has one update more, and two effective rows have one pair more.
+-- Number keeps the list's own: the log has one update more, and two effective rows have one pair more.
 -- In order: what an insert and a remove show each in its way; what both grant.
 -- Not here: the history, which is kept because Number may number (Owes). Assumes nothing.
 use mathlib.Core.Path.{_≡_, refl, sym, _∙_, ap}

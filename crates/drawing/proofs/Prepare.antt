@@ -1,4 +1,4 @@
--- Prepare keeps the invariant: two pending entries are laid, and no effective row changes.
+-- Prepare keeps the list's own: two pending entries are laid, and no effective row changes.
 -- In order: what laying grants, for both kinds; an insert's Prepare; a remove's.
 -- Assumes nothing.
 use mathlib.Core.List.{[]}

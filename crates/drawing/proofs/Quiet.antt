@@ -1,5 +1,5 @@
--- From a step's grants to the invariant; and the steps that change no more than locks.
--- In order: putting the invariant together; quiet steps in general; only the phase; one lock more; leaving; a start.
+-- From a step's grants to what the list keeps of its own; and the steps that change no more than locks.
+-- In order: putting it together; quiet steps in general; only the phase; one lock more; leaving; a start.
 -- `leave-step` is the one lemma of leaving: walk again, present, absent, full (and later a withdrawal).
 -- Assumes nothing.
 use mathlib.Core.Path.{_≡_, refl}
