@@ -38,7 +38,7 @@ use Rattle.reached.specs.Answers.{setAt}
 use Rattle.drawing.specs.Drawing.{Drawing}
 use Rattle.drawing.proofs.Ahead.{chain-distinct}
 use Rattle.drawing.proofs.Room.{distinct-length, walk-from-head, given-covered}
-use Rattle.words.proofs.Show.{Shown}
+use Rattle.words.proofs.Show.{Shown, shown-inv}
 use Rattle.words.proofs.Use.{inUse, in-use-covers, in-use-length}
 use Rattle.words.proofs.Demand2.{demand-2, seen}
 use Rattle.mission.specs.Mission.{whole}
@@ -80,10 +80,10 @@ module _ (key val : ℕ → ℕ) (σ : State) (h : Past) (m : Drawing) (S : Show
   members-few : length (members key empty (upTo empty t (m .log))) ≤ length (inUse key val σ h m S)
   members-few =
       let log = upTo empty t (m .log) in
-      let snap = S .inv .hist .snap t (omega arith) (omega (arith, S .stamp)) in
+      let snap = shown-inv S .hist .snap t (omega arith) (omega (arith, S .stamp)) in
       distinct-length (members key empty log) (inUse key val σ h m S)
       (chain-distinct key _ head (members key empty log) (walk-from-head key empty _ log snap))
-      (λ x k. given-covered key val empty m (S .inv) (inUse key val σ h m S) (in-use-covers key val σ h m S) x
+      (λ x k. given-covered key val empty m (shown-inv S) (inUse key val σ h m S) (in-use-covers key val σ h m S) x
       (given-first empty x (t - 0) (m .log) (members-given key empty x log k)))
 
   shown-few : length (setAt h t) ≤ 510

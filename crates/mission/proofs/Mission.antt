@@ -37,7 +37,7 @@ use Rattle.drawing.specs.Steps.{Out, working, Step, walk-on, walk-arrive, lock-
 use Rattle.drawing.specs.Steps.{check-present, check-absent, check-pass, prepare-full, prepare-insert, prepare-remove}
 use Rattle.drawing.specs.Steps.{number-it, link-it, finish-it, seek-on, seek-present, seek-absent, fix-it, follow-on}
 use Rattle.drawing.specs.Steps.{follow-in, follow-end, hand-out}
-use Rattle.words.proofs.Show.{Agrees, Shown, outWord, Advance, waited, stepped, Advanced}
+use Rattle.words.proofs.Show.{Agrees, Shown, outWord, Advance, waited, stepped, Advanced, shown-inv}
 use Rattle.words.proofs.Land.{usedOf, no-update}
 use Rattle.words.proofs.Back.{agree-back}
 use Rattle.words.proofs.Starts.{idle-refused}
@@ -86,7 +86,7 @@ module _ (key val : ℕ → ℕ) (σ : State) (h : Past) (m : Drawing) (S : Show
       ≡ setOf key val empty (upTo empty t (m .log))
   log-whole t t≤now =
       let log = upTo empty t (m .log) in
-      let snap = S .inv .hist .snap t (omega arith) (omega (arith, S .stamp)) in
+      let snap = shown-inv S .hist .snap t (omega arith) (omega (arith, S .stamp)) in
       sym (set-within key val empty 1 4294967294 log)
       ∙ ap (map (entry key val)) (chain-whole key (next (m .rows) t) 1 4294967294 0 (members key empty log)
       (omega (arith, S .head-key)) (omega (arith, S .tail-key)) (snap .walk))

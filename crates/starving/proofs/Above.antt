@@ -22,7 +22,7 @@ use Rattle.drawing.specs.Drawing.{Drawing}
 use Rattle.drawing.proofs.Inv.{Inv}
 use Rattle.drawing.proofs.Room.{Covers}
 use Rattle.fairness.specs.Calls.{after, Along}
-use Rattle.words.proofs.Show.{Agrees}
+use Rattle.words.proofs.Show.{Agrees, shown-inv}
 use Rattle.words.proofs.Land.{usedOf}
 use Rattle.words.proofs.Back.{agree-back}
 use Rattle.pace.specs.Turns
@@ -126,8 +126,8 @@ module _ (key val : ℕ → ℕ) where
 
   -- ---- THEY GO ON AS DRAWINGS DO
   pub above-inv : (a : Above) → Inv key val empty (drawingOf a)
-  above-inv (live L) = L .shown .inv
-  above-inv (lost τ L) = L .shown .inv
+  above-inv (live L) = shown-inv (L .shown)
+  above-inv (lost τ L) = shown-inv (L .shown)
 
   pub above-covers : (a : Above) → Good a → Covers (nodesIn a) (drawingOf a)
   above-covers (live L) good = L .listed .covers

@@ -31,7 +31,7 @@ use Rattle.drawing.proofs.Change.{change-same, change-other}
 use Rattle.drawing.proofs.Inv.{Inv}
 use Rattle.drawing.proofs.Room.{distinct-length, used-below, on-used}
 use Rattle.drawing.proofs.Given.{Listed, listed-step, listed-start, listed-beginning, nodesOf, nodes-length, nodes-mem}
-use Rattle.words.proofs.Show.{Agrees, opWord, Shown, outWord, waited, stepped, Advanced}
+use Rattle.words.proofs.Show.{Agrees, opWord, Shown, outWord, waited, stepped, Advanced, shown-inv}
 use Rattle.words.proofs.Land.{usedOf, Early}
 use Rattle.words.proofs.Back.{agree-back}
 use Rattle.words.proofs.Fresh.{fresh-shows}
@@ -110,7 +110,7 @@ module _ (key val : ℕ → ℕ) where
       let S = L .shown in
       let used = L .listed .used x k in
       let x≢head : x ≢ head = λ e. L .no-head (subst (λ y. List·Memᴰ y (L .nodes)) e k) in
-      let x≢tail : x ≢ tail = λ e. used (ap (m .bundle) e ∙ S .inv .ends) in
+      let x≢tail : x ≢ tail = λ e. used (ap (m .bundle) e ∙ shown-inv S .own .ends) in
       (omega (arith, x≢head, x≢tail), used-below m (usedOf (l .state)) (S .two) (S .rows .blank) x (inl used))
 
   pub few-nodes : {l : Lived} (L : Live key val l) → length (L .nodes) ≤ given (l .state)
@@ -187,8 +187,8 @@ module _ (key val : ℕ → ℕ) where
         drawing = m′;
         shown = S;
         nodes = givenBy f (L .nodes);
-        listed = rw e (listed-step key val empty m (L .shown .inv) (L .nodes) (L .listed) t step);
-        no-head = headless key val m (L .shown .inv) t (L .nodes) (L .no-head) step;
+        listed = rw e (listed-step key val empty m (shown-inv (L .shown)) (L .nodes) (L .listed) t step);
+        no-head = headless key val m (shown-inv (L .shown)) t (L .nodes) (L .no-head) step;
       };
       turn = turn-is (ap (counted t) a ∙ out-some t o) e (stepping t step);
       ends = λ q low high is-open shut.
@@ -211,7 +211,7 @@ module _ (key val : ℕ → ℕ) where
           };
           turn = turn;
           ends = λ q low high is-open shut. none-some
-              (end-turn key val empty m q low high is-open (L .nodes) turn (L .shown .inv) shut .its-own);
+              (end-turn key val empty m q low high is-open (L .nodes) turn (shown-inv (L .shown)) shut .its-own);
         }
 
     pub next : (c : Call) → InWords c → Agrees key val (usedOf (go small σ c)) (go small σ c .nodes) → Next L c

@@ -1,6 +1,7 @@
 -- DEMAND 2: each answer of a reached register is the ordered set's, at the step that document 01 names.
 -- In order: refusals by their numbers; what the answer to any call says; the demand, field by field;
 -- the end of a range that is known to be under way.
+-- The drawing that the words show has its history through the record of shapes (Show, `shown-inv`).
 -- Not here: the demand's sentences (crate reached). Assumes nothing.
 use Prim.Native.Nat.{ℕ}
 use mathlib.Core.Path.{_≡_, refl, sym, _∙_, ap}

@@ -15,6 +15,7 @@ use Rattle.table.specs.Table.{wordOf, clearOf}
 use Rattle.table.proofs.Laws.{word-stored, word-else, store-length}
 use Rattle.order.specs.Rows
 use Rattle.order.specs.History.{head, tail, empty, linked}
+use Rattle.order.specs.Shape.{at-beginning}
 use Rattle.bundle.specs.Bundle.{layOf}
 use Rattle.bundle.specs.Shows.{Shows}
 use Rattle.bundle.proofs.Promise.{lay-length, finish-length, lay-front, finish-front}
@@ -31,7 +32,6 @@ use Rattle.reached.specs.Reached.{noPast}
 use Rattle.reached.proofs.History.{getD-default}
 use Rattle.drawing.specs.Phases.{idle}
 use Rattle.drawing.specs.Drawing.{plainly, final, shown, beginning}
-use Rattle.drawing.proofs.Begin.{begin-empty}
 use Rattle.order.proofs.Tests.{cond-cases, eqb-cases}
 use Rattle.words.proofs.Show.{Agrees, Nodes, Sinks, Rows, Shown}
 
@@ -195,7 +195,7 @@ unfolding beginning
 fresh-is ns es nodes entries key val A =
     let low : key head ≡ 0 = sym (A .keyed 0 (omega arith)) ∙ head-word ns nodes in
     let high : key tail ≡ tailKey = sym (A .keyed 1 (omega arith)) ∙ tail-word ns nodes in record {
-      inv = begin-empty key val (omega (arith, low, high));
+      reached = at-beginning refl;
       head-key = low;
       tail-key = high;
       agrees = A;

@@ -30,7 +30,7 @@ use Rattle.drawing.specs.Answers.{Numbered}
 use Rattle.drawing.proofs.Inv.{Facts}
 use Rattle.drawing.proofs.Room.{log-room}
 use Rattle.drawing.proofs.Answers.{handed-first}
-use Rattle.words.proofs.Show.{opWord, taskWord, Runs, HandedIn, Shown}
+use Rattle.words.proofs.Show.{opWord, taskWord, Runs, HandedIn, Shown, shown-inv}
 use Rattle.words.proofs.Land.{handed-at}
 use Rattle.words.proofs.Use.{inUse, in-use-covers, in-use-length}
 use Rattle.words.proofs.Says.{Says}
@@ -116,7 +116,7 @@ module _ (key val : ℕ → ℕ) (σ : State) (h : Past) (m : Drawing) (S : Show
   handed-is t φ e = handed-at (m .phase t) φ _ _ (sym e) refl (S .tells .handed t)
 
   fact : (t : ℕ) (φ : Phase) → m .phase t ≡ φ → Facts key val empty m t φ
-  fact t φ e = rw e at (S .inv .facts t)
+  fact t φ e = rw e at (shown-inv S .own .facts t)
 
   -- what session t was handed is a first part of the keys within bounds after s updates
   abbrev Part : (t low high s : ℕ) → Type 0
@@ -125,7 +125,8 @@ module _ (key val : ℕ → ℕ) (σ : State) (h : Past) (m : Drawing) (S : Show
   follow-part : (t low high x s : ℕ) (given : List Pair) → m .phase t ≡ following low high x s given
       → Part t low high s
   follow-part t low high x s given e =
-      let f = handed-first key val empty m (S .inv) t low high x s given (fact t (following low high x s given) e) in (
+      let f = handed-first key val empty m (shown-inv S) t low high x s given
+      (fact t (following low high x s given) e) in (
         f .0,
         ap (λ l. l ++ f .0) (handed-is t (following low high x s given) e)
             ∙ same-set low high s (given ++ f .0) (f .1 .right),
@@ -134,7 +135,7 @@ module _ (key val : ℕ → ℕ) (σ : State) (h : Past) (m : Drawing) (S : Show
   hand-part : (t low high x s : ℕ) (given : List Pair) → m .phase t ≡ handing low high x s given → Part t low high s
   hand-part t low high x s given e =
       let one = entry key val x ∷ [] in
-      let f = handed-first key val empty m (S .inv) t low high x s (given ++ one)
+      let f = handed-first key val empty m (shown-inv S) t low high x s (given ++ one)
       (fact t (handing low high x s given) e .2) in (
         one ++ f .0,
         ap (λ l. l ++ (one ++ f .0)) (handed-is t (handing low high x s given) e)
@@ -272,5 +273,5 @@ module _ (key val : ℕ → ℕ) (σ : State) (h : Past) (m : Drawing) (S : Show
     S .stamp,
     S .most,
     in-use-length key val σ h m S,
-    log-room key val empty m (S .inv) (inUse key val σ h m S) (in-use-covers key val σ h m S),
+    log-room key val empty m (shown-inv S) (inUse key val σ h m S) (in-use-covers key val σ h m S),
   )

@@ -15,6 +15,7 @@ use lib.Dec.{ltb}
 use borrow.Author.Tests.{lt-ltb, le-ltb, eq-eqb}
 use Rattle.order.specs.Set.{Pair, Update, insert, remove}
 use Rattle.order.specs.History.{Removed, empty, said}
+use Rattle.order.specs.Shape.{gone-on}
 use Rattle.terms.specs.Terms.{small}
 use Rattle.terms.specs.declared.Size.{Size}
 use Rattle.terms.specs.declared.Counters.{Counters}
@@ -37,8 +38,8 @@ use Rattle.drawing.specs.Phases.{numbering, linking, finishing, seeking, fixing
 use Rattle.drawing.specs.Drawing.{change, Drawing, now}
 use Rattle.drawing.specs.Effects.{Effect, stays, logBy, after}
 use Rattle.drawing.specs.Steps.{Out, working, present, absent, full, inserted, removed, key-value, ended, Step, Waits}
+use Rattle.drawing.specs.Steps.{stepping}
 use Rattle.drawing.proofs.Change.{change-same, change-other}
-use Rattle.drawing.proofs.Keeps.{step-keeps}
 use Rattle.drawing.proofs.Tasks.{Next, task-stays}
 use Rattle.words.proofs.Show.{Agrees, Nodes, Rows, taskWord, running, Runs, BeingCut, Cuts, HandedIn, Tells}
 use Rattle.words.proofs.Show.{Shown, outWord, waited, stepped, Advanced}
@@ -310,7 +311,7 @@ module _ (key val : ℕ → ℕ) (σ : State) (h : Past) (m : Drawing) (S : Show
   shown-after : Agrees key val (r .counters .nodes) ns
       → Shown small key val (stateIn (leftBy σ t ns es r)) (noteOf σ (Call.Step t) h (leftBy σ t ns es r)) next
   shown-after agrees = record {
-    inv = step-keeps key val empty m (S .inv) t (L .step);
+    reached = gone-on (S .reached) (stepping t (L .step));
     head-key = S .head-key;
     tail-key = S .tail-key;
     agrees = agrees;

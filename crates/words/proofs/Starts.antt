@@ -15,6 +15,7 @@ use lib.Dec.{eqb}
 use borrow.Author.Tests.{lt-ltb, le-ltb, eqb-false}
 use Rattle.order.specs.Set.{insert, remove}
 use Rattle.order.specs.History.{head, tail, empty}
+use Rattle.order.specs.Shape.{gone-on}
 use Rattle.order.proofs.Tests.{cond-cases, ltb-cases, eqb-cases}
 use Rattle.nodes.specs.Nodes.{nextAt}
 use Rattle.terms.specs.Terms.{small, soughtOf, highOf, tailKey, outOfBounds}
@@ -35,9 +36,8 @@ use Rattle.reached.proofs.History.{at-same, at-other}
 use Rattle.drawing.specs.Phases.{Op, upd, has, range, Phase, idle, walking, task}
 use Rattle.drawing.specs.Drawing.{change, Drawing, now}
 use Rattle.drawing.specs.Effects.{stays, begun}
-use Rattle.drawing.specs.Steps.{Fine, Starts, starts}
+use Rattle.drawing.specs.Steps.{Fine, Starts, starts, starting}
 use Rattle.drawing.proofs.Change.{change-same, change-other}
-use Rattle.drawing.proofs.Keeps.{start-keeps}
 use Rattle.words.proofs.Show.{opWord, taskWord, running, Runs, Cuts, HandedIn, Shown}
 use Rattle.words.proofs.Land.{noteOf, Busy, busy-record, fits-whole, Early, refused, kept, kept-state}
 use Rattle.words.proofs.Land.{no-update, kept-past, unchanged, runs-at, handed-at}
@@ -198,7 +198,7 @@ module _ (key val : ℕ → ℕ) (σ : State) (h : Past) (m : Drawing) (S : Show
     start-shows op e = (
       begun empty m who φ,
       record {
-        inv = start-keeps key val empty m (S .inv) who (starts d quiet fine);
+        reached = gone-on (S .reached) (starting who (starts d quiet fine));
         head-key = S .head-key;
         tail-key = S .tail-key;
         agrees = S .agrees;
