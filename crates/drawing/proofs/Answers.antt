@@ -24,7 +24,7 @@ use Rattle.drawing.proofs.Keeps.{read-right, newest-right}
 
 module _ (key val : ℕ → ℕ) (start : Start) (m : Drawing) (I : Inv key val start m) (t : ℕ) where
   its : (φ : Phase) → m .phase t ≡ φ → Facts key val start m t φ
-  its φ e = rw e at (I .facts t)
+  its φ e = rw e at (I .own .facts t)
 
   -- ---- pred in the set, and leading to curr, at a good Check
   pred-now : (u : Update) (p q : ℕ) → Facts key val start m t (checking u p q) → Good m u p q →

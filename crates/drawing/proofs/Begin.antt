@@ -1,24 +1,24 @@
--- The beginning has the invariant, whatever stamp and nodes in order it begins with.
--- In order: plain links and rows agree; the invariant.
--- Assumes nothing.
+-- The beginning has what the list keeps of its own, whatever stamp and nodes with a history it begins with.
+-- In order: plain links and rows agree; what the list keeps.
+-- Not here: its history (crate order). Assumes nothing.
 use mathlib.Core.Path.{_≡_, refl, _∙_, ap}
 use mathlib.Core.Logic.{inl, inr, ⊎-elim}
 use mathlib.Core.Option.{none, some}
 use mathlib.Core.List.{List, [], _∷_, _++_, List·Memᴰ, List·Memᴰ·head, List·Memᴰ·tail, List·Memᴰ·not-nil}
 use mathlib.Core.List.{List·Memᴰ·cases-cons}
-use Prim.Native.Nat.{ℕ, _<_}
+use Prim.Native.Nat.{ℕ}
 use native.Mathlib.Decide.{ℕ-discrete}
 use native.Mathlib.Omega.{arith}
 use borrow.Author.Tests.{eq-eqb, ne-eqb}
 use Rattle.order.specs.Rows.{look}
-use Rattle.order.specs.History.{head, tail, next, Start, InOrder, empty, stamp, members, History, linked, rowsFrom}
+use Rattle.order.specs.History.{head, tail, next, Start, stamp, members, History, linked, rowsFrom}
 use Rattle.order.proofs.Rows.{none-some, look-take}
-use Rattle.order.proofs.Keeps.{history-begins, linked-out, link-rises}
+use Rattle.order.proofs.Keeps.{linked-out, link-rises}
 use Rattle.order.proofs.Near.{link-target}
 use Rattle.drawing.specs.Drawing.{plainly, final, beginning}
 use Rattle.drawing.proofs.Change.{final-pending, final-same}
-use Rattle.drawing.proofs.Inv.{On, Inv}
-use Rattle.drawing.proofs.Number.{below-tail}
+use Rattle.drawing.proofs.Inv.{On, Own}
+use Rattle.drawing.proofs.Owes.{below-tail}
 
 -- ---- each node's row has one pair, which leads where its plain link does
 pub linked-plainly : (base p x : ℕ) (ns : List ℕ) → List·Memᴰ x (p ∷ ns) →
@@ -34,10 +34,7 @@ linked-plainly base p x (n ∷ ns) m = elim (ℕ-discrete x p) [
       (linked-plainly base n x ns (⊎-elim (λ e. absurd (x≢p e)) (λ k. k) (List·Memᴰ·cases-cons m)))
 ]
 
-module _ (key val : ℕ → ℕ) (start : Start) (in-order : InOrder key start) where
-  abbrev H : History key start (rowsFrom start) []
-  H = history-begins key start in-order
-
+module _ (key val : ℕ → ℕ) (start : Start) (H : History key start (rowsFrom start) []) where
   -- a node that is given at the beginning is the head or a starting node
   begin-in : (x : ℕ) → On start (beginning start) x → List·Memᴰ x (head ∷ members key start [])
   unfolding beginning members
@@ -58,10 +55,9 @@ module _ (key val : ℕ → ℕ) (start : Start) (in-order : InOrder key start) 
   tail-empty = linked-out (start .base) head tail (start .loaded) (omega arith) tail-out
 
   -- ---- THE BEGINNING
-  pub begin-inv : Inv key val start (beginning start)
+  pub begin-own : Own key val start (beginning start)
   unfolding beginning members
-  begin-inv = record {
-    hist = H;
+  begin-own = record {
     once = tt;
     links = λ x on. let m = begin-in x on in let l = begin-leads x m in (
       link-rises key start (rowsFrom start) [] H x _ m l,
@@ -75,7 +71,3 @@ module _ (key val : ℕ → ℕ) (start : Start) (in-order : InOrder key start) 
     begun = λ t. (omega arith, omega arith);
     facts = λ t. tt;
   }
-
--- the empty set at stamp 0
-pub begin-empty : (key val : ℕ → ℕ) → key head < key tail → Inv key val empty (beginning empty)
-begin-empty key val head<tail = begin-inv key val empty (head<tail, tt)

@@ -14,18 +14,20 @@ use lib.ListN.{getD}
 use Rattle.order.specs.Set.{insert, remove, setAfter, put}
 use Rattle.order.specs.Rows.{readAt, readNewest}
 use Rattle.order.specs.History.{head, ins, rem, empty, setOf, linked}
+use Rattle.order.specs.Shape.{at-beginning, gone-on}
 use Rattle.order.proofs.Rows.{none-some}
 use Rattle.drawing.specs.Phases.{upd, has, range, idle, walking, locking, checking, preparing, numbering}
-use Rattle.drawing.specs.Phases.{linking, finishing, fixing, following}
+use Rattle.drawing.specs.Phases.{Phase, linking, finishing, fixing, following}
 use Rattle.drawing.specs.Drawing.{change, without, plainly, Drawing, beginning}
-use Rattle.drawing.specs.Effects.{stays, holds, lays, numbers, links, finishes, after, begun}
-use Rattle.drawing.specs.Steps.{present, inserted, removed, Step, Waits, Reached, begins, started, stepped}
+use Rattle.drawing.specs.Effects.{Effect, stays, holds, lays, numbers, links, finishes, after, begun}
+use Rattle.drawing.specs.Steps.{Out, present, inserted, removed, Starts, Step, Waits, starting, stepping}
 use Rattle.drawing.specs.Steps.{starts, walk-arrive, lock-pred, lock-curr, check-pass, prepare-insert}
 use Rattle.drawing.specs.Steps.{prepare-remove, number-it, link-it, finish-it, seek-present, fix-it}
 use Rattle.drawing.specs.Answers.{Right}
 use Rattle.drawing.proofs.Inv.{Inv}
 use Rattle.drawing.proofs.Room.{on-used}
-use Rattle.drawing.proofs.Reached.{reached-inv, reached-answers}
+use Rattle.drawing.proofs.Shape.{Reached, reached-inv}
+use Rattle.drawing.proofs.Reached.{reached-answers}
 
 -- ---- node 2 has key 20 and value 7
 abbrev key : ℕ → ℕ
@@ -33,6 +35,15 @@ key x = getD (0 ∷ 4294967295 ∷ 20 ∷ []) x 0
 
 abbrev val : ℕ → ℕ
 val x = getD (0 ∷ 0 ∷ 7 ∷ []) x 0
+
+-- ---- a run, call by call
+started : {m : Drawing} (t : ℕ) {φ : Phase} → Reached key val empty m → Starts key val t m φ
+    → Reached key val empty (begun empty m t φ)
+started t r s = gone-on r (starting t s)
+
+stepped : {m : Drawing} (t : ℕ) {o : Out} {f : Effect} {φ : Phase} → Reached key val empty m
+    → Step key val empty t m o f φ → Reached key val empty (after empty m t f φ)
+stepped t r s = gone-on r (stepping t s)
 
 -- ---- session 0 inserts 20
 abbrev m₁ : Drawing
@@ -58,7 +69,7 @@ m₇ = after empty m₆ 0 (links (insert 20 7) 0 2 1) (finishing (insert 20 7) 0
 
 reached₁ : Reached key val empty m₁
 unfolding beginning change plainly
-reached₁ = started 0 begins (starts (upd (insert 20 7)) refl (omega arith, omega arith))
+reached₁ = started 0 (at-beginning refl) (starts (upd (insert 20 7)) refl (omega arith, omega arith))
 
 reached₄ : Reached key val empty m₄
 unfolding beginning change plainly
@@ -165,7 +176,7 @@ broken = record {
 }
 
 pub broken-no-inv : ¬ Inv key val empty broken
-broken-no-inv I = omega (arith, I .links head (inl refl) .0)
+broken-no-inv I = omega (arith, I .own .links head (inl refl) .0)
 
 -- ---- a finished insert whose node keeps an empty row: a range at snapshot 1 would find no entry
 abbrev unlinked : Drawing

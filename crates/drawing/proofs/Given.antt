@@ -20,7 +20,7 @@ use Rattle.order.specs.Rows.{Row, Under, look}
 use Rattle.order.specs.History.{head, tail, Start, InOrder, members, linked, rowsFrom}
 use Rattle.order.proofs.Tests.{eqb-cases}
 use Rattle.order.proofs.Rows.{some-same, look-newest}
-use Rattle.order.proofs.Keeps.{linked-there, link-rises, history-begins, current}
+use Rattle.order.proofs.Keeps.{linked-there, link-rises, current}
 use Rattle.drawing.specs.Phases.{Phase, preparing}
 use Rattle.drawing.specs.Drawing.{change, Owned, final, pending, Drawing, now, beginning}
 use Rattle.drawing.specs.Effects.{Effect, stays, holds, leaves, lays, numbers, links, finishes, givenBy, after}
@@ -33,15 +33,15 @@ use Rattle.drawing.specs.Steps.{follow-on, follow-in, follow-end, hand-o
 use Rattle.drawing.proofs.Change.{change-same, pair-cases}
 use Rattle.drawing.proofs.Ahead.{Distinct, chain-distinct}
 use Rattle.drawing.proofs.Inv.{On, lead, In, Facts, Inv}
-use Rattle.drawing.proofs.Number.{head-least}
+use Rattle.drawing.proofs.Owes.{head-least}
 use Rattle.drawing.proofs.Room.{Covers, walk-from-head, on-used, pends-used}
-use Rattle.drawing.proofs.Begin.{begin-inv}
+use Rattle.drawing.proofs.Shape.{begin-inv}
 
 -- ---- the nodes given stay covered
 module _ (key val : ℕ → ℕ) (start : Start) (m : Drawing) (I : Inv key val start m) (given : List ℕ)
     (C : Covers given m) (t : ℕ) where
   its : (φ : Phase) → m .phase t ≡ φ → Facts key val start m t φ
-  its φ e = rw e at (I .facts t)
+  its φ e = rw e at (I .own .facts t)
 
   -- two bundles of nodes in use change
   two-covered : (p y : ℕ) (a b : Owned) → m .bundle p ≢ final [] → m .bundle y ≢ final [] → (x : ℕ) → x ≢ head →
@@ -208,11 +208,11 @@ module _ (key val : ℕ → ℕ) (start : Start) (m : Drawing) (I : Inv key val 
 
   back-on : (x z : ℕ) (r : Row) → m .bundle x ≡ final r → In key val start m x → lead start m x ≡ some z →
       back (m .bundle x) ≡ 0
-  back-on x z r b i link = rw b (newest-on x z r (I .settled x r b) link (leads-on x z i link))
+  back-on x z r b i link = rw b (newest-on x z r (I .own .settled x r b) link (leads-on x z i link))
 
   module _ (given : List ℕ) (L : Listed given m) (t : ℕ) where
     facts : (φ : Phase) → m .phase t ≡ φ → Facts key val start m t φ
-    facts φ e = rw e at (I .facts t)
+    facts φ e = rw e at (I .own .facts t)
 
     -- at Prepare pred leads to curr, and so to no head
     pred-back : (u : Update) (p q : ℕ) (r : Row) → m .phase t ≡ preparing u p q → m .bundle p ≡ final r →
@@ -397,9 +397,9 @@ module _ (key val : ℕ → ℕ) (start : Start) (in-order : InOrder key start) 
   loaded-given x k = inr (inl k)
 
   loaded-distinct : Distinct (start .loaded)
-  unfolding members
+  unfolding members beginning
   loaded-distinct = chain-distinct key _ head (start .loaded)
-      (walk-from-head key start _ [] (current key start (rowsFrom start) [] (history-begins key start in-order)))
+      (walk-from-head key start _ [] (current key start (rowsFrom start) [] (I₀ .hist)))
 
   pub listed-beginning : Listed (start .loaded) (beginning start)
   listed-beginning = record {
@@ -411,7 +411,7 @@ module _ (key val : ℕ → ℕ) (start : Start) (in-order : InOrder key start) 
   loaded-on : (x : ℕ) → List·Memᴰ x (start .loaded) → back (beginning start .bundle x) ≡ 0
   unfolding beginning
   loaded-on x k =
-      let d = I₀ .free x refl (loaded-given x k) refl in
+      let d = I₀ .own .free x refl (loaded-given x k) refl in
       back-on key val start (beginning start) I₀ x _ (rowsFrom start x) refl (d .0) (d .1)
 
   pub laid-beginning : laid (beginning start) (start .loaded) ≡ length (start .loaded)
@@ -451,6 +451,6 @@ nodes-cover key val start m I n beyond x x≢head used = nodes-mem x n (above x 
 
     above : (y : ℕ) → y ≢ head → m .bundle y ≢ final [] → 2 ≤ y
     above y y≢head y-used = elim (ℕ-discrete y tail) [
-      | yes e ↦ absurd (y-used (rw e (I .ends)))
+      | yes e ↦ absurd (y-used (rw e (I .own .ends)))
       | no e ↦ omega arith
     ]

@@ -78,7 +78,7 @@ module _ (key val : ℕ → ℕ) (start : Start) (m : Drawing) where
 
   module _ (I : Inv key val start m) (t : ℕ) where
     its : (φ : Phase) → m .phase t ≡ φ → Facts key val start m t φ
-    its φ e = rw e at (I .facts t)
+    its φ e = rw e at (I .own .facts t)
 
     -- ---- Check
     check-goes : (u : Update) (p q : ℕ) → m .phase t ≡ checking u p q → Goes t
@@ -104,7 +104,7 @@ module _ (key val : ℕ → ℕ) (start : Start) (m : Drawing) where
     -- ---- the bundle of a given node is not empty, so there is a newest entry
     pub newest-found : (x : ℕ) (r : Row) → On start m x → m .bundle x ≡ final r →
         (q : ℕ) × (readNewest (shown (m .bundle x)) ≡ found (some q))
-    newest-found x [] on b = absurd (row-given key start (m .rows) (m .log) (I .hist) x on (I .settled x [] b))
+    newest-found x [] on b = absurd (row-given key start (m .rows) (m .log) (I .hist) x on (I .own .settled x [] b))
     newest-found x (pair ∷ r) on b = (pair .1, rw b (newest-final (pair ∷ r)))
 
     seek-goes : (k x q : ℕ) → m .phase t ≡ seeking k x → readNewest (shown (m .bundle x)) ≡ found (some q) → Goes t

@@ -2,7 +2,8 @@
 -- In order: nodes that are given; what a phase holds and where its entries are; each phase's facts; the invariant;
 -- what a step of another leaves alone; what a step shows of the drawing that it makes.
 -- Locks are ownership: plain links are spoken of where no lock is, and a held node's facts are its holder's.
--- Not here: that steps keep it (Keeps). Assumes nothing.
+-- Not here: that steps keep it (Keeps), and the history, which no step's grant speaks of: it comes from what steps
+-- number (Owes), by the record of shapes (Shape). Assumes nothing.
 use mathlib.Core.Path.{_≡_}
 use mathlib.Core.Logic.{_⊎_, _≢_}
 use mathlib.Core.Bool.{false}
@@ -12,7 +13,7 @@ use Prim.Native.Nat.{ℕ, _≤_, _<_}
 use Rattle.order.specs.Set.{Pair, keyOf, within, Update, insert, remove}
 use Rattle.order.specs.Rows.{Row}
 use Rattle.order.specs.History.{head, tail, next, ins, rem, Log, Removed, Start, upTo, Given, entry, setOf, members}
-use Rattle.order.specs.History.{History}
+use Rattle.order.specs.Shape.{Known}
 use Rattle.drawing.specs.Phases.{upd, has, range, keyIn, sought, predTarget, nodeTarget, oldNext, OfRemove}
 use Rattle.drawing.specs.Phases.{Phase, idle, walking, locking, lockingCurr, checking, preparing, numbering}
 use Rattle.drawing.specs.Phases.{linking, finishing, seeking, fixing, following, handing}
@@ -172,9 +173,8 @@ module _ (key val : ℕ → ℕ) (start : Start) where
   Facts m t (handing low high x s handed) =
       (low ≤ key x) × (key x ≤ high) × Ranging m t low high x s (handed ++ (entry key val x ∷ []))
 
-  -- ---- the invariant
-  pub record Inv (m : Drawing) : Type 0 where
-    pub hist : History key start (m .rows) (m .log)
+  -- ---- the invariant: what the list keeps of its own, and with the history
+  pub record Own (m : Drawing) : Type 0 where
     pub once : Once start (m .log)
     pub links : (x : ℕ) → On start m x → (key x < key (m .plain x)) × At start m (m .plain x)
     pub free : (x : ℕ) → m .lock x ≡ none → Coupled m x
@@ -184,6 +184,9 @@ module _ (key val : ℕ → ℕ) (start : Start) where
     pub ends : m .bundle tail ≡ final []
     pub begun : (t : ℕ) → (start .base ≤ m .since t) × (m .since t ≤ now start m)
     pub facts : (t : ℕ) → Facts m t (m .phase t)
+
+  abbrev pub Inv : Drawing → Type 0
+  Inv m = Known key start (m .rows) (m .log) (Own m)
 
   -- ---- what a step of another leaves alone for session `t`
   -- a node that is `t`'s: locked by it, or with its pending entry
@@ -218,7 +221,6 @@ module _ (key val : ℕ → ℕ) (start : Start) where
   pub record Grant (t : ℕ) (m m′ : Drawing) : Type 0 where
     pub others : (w : ℕ) → w ≢ t → Rely w m m′
     pub apart : (w : ℕ) → w ≢ t → Apart w m m′
-    pub hist : History key start (m′ .rows) (m′ .log)
     pub once : Once start (m′ .log)
     pub links : (x : ℕ) → On start m′ x → (key x < key (m′ .plain x)) × At start m′ (m′ .plain x)
     pub free : (x : ℕ) → m′ .lock x ≡ none → Coupled m′ x

@@ -1,6 +1,7 @@
--- Every start and every step of every session keeps the invariant; and reading answers from the effective rows.
+-- Every start and every step of every session keeps what the list keeps of its own; and reading answers from the
+-- effective rows.
 -- In order: bounds of keys; effective rows; rules B3 and B4; where links lead; Walk and Lock; a range's steps; all.
--- Assumes nothing.
+-- Not here: the history after a step (Shape). Assumes nothing.
 use mathlib.Core.Path.{_≡_, refl, sym, _∙_, ap}
 use mathlib.Core.Logic.{_⊎_, inl, inr, ⊎-elim, ⊎-map, _≢_}
 use mathlib.Core.Option.{Option, none, some}
@@ -25,7 +26,7 @@ use Rattle.drawing.specs.Steps.{prepare-insert, prepare-remove, number-i
 use Rattle.drawing.specs.Steps.{seek-present, seek-absent, fix-it, follow-on, follow-in, follow-end, hand-out}
 use Rattle.drawing.proofs.Change.{change-cases, change-same}
 use Rattle.drawing.proofs.Ahead.{ahead-on, fixed, snap-target}
-use Rattle.drawing.proofs.Inv.{On, At, lead, Holds, Pends, Stand, Dated, Ranging, Facts, Inv}
+use Rattle.drawing.proofs.Inv.{On, At, lead, Holds, Pends, Stand, Dated, Ranging, Facts, Own, Inv}
 use Rattle.drawing.proofs.Inv.{Rely, Grant}
 use Rattle.drawing.proofs.Stable
 use Rattle.drawing.proofs.Quiet.{assemble, quiet-rely, stay-step, hold-step, leave-step, begin-step}
@@ -89,8 +90,8 @@ module _ (key val : ℕ → ℕ) where
     effective x = go (m .bundle x) refl
       where
         go : (b : Owned) → m .bundle x ≡ b → Effective (shown b) (m .rows x)
-        go (final r) e = I .settled x r e
-        go (pending w c g r) e = pending-row w x c g r (m .phase w) e (I .facts w) (I .owned w x c g r e)
+        go (final r) e = I .own .settled x r e
+        go (pending w c g r) e = pending-row w x c g r (m .phase w) e (I .own .facts w) (I .own .owned w x c g r e)
 
     -- ---- rules B3 and B4
     pub read-right : (s x : ℕ) (o : Option ℕ) → readAt s (shown (m .bundle x)) ≡ found o → next (m .rows) s x ≡ o
@@ -116,7 +117,7 @@ module _ (key val : ℕ → ℕ) where
     module _ (t : ℕ) where
       -- the phase's facts
       its : (φ : Phase) → m .phase t ≡ φ → Facts key val start m t φ
-      its φ e = rw e at (I .facts t)
+      its φ e = rw e at (I .own .facts t)
 
       -- ---- the steps that change phases and locks
       rely-stay : (φ : Phase) → Rely key val start t m (after start m t stays φ)
@@ -130,9 +131,9 @@ module _ (key val : ℕ → ℕ) where
           Stand key val start m′ (sought op) head (m .plain head)
       at-head op f m′ on = record {
         pred-on = inl refl;
-        curr-at = ⊎-map (on (m .plain head)) (λ e. e) (I .links head (inl refl) .1);
+        curr-at = ⊎-map (on (m .plain head)) (λ e. e) (I .own .links head (inl refl) .1);
         below = low-bound op f;
-        rise = I .links head (inl refl) .0;
+        rise = I .own .links head (inl refl) .0;
       }
 
       walk-grants : (op : Op) (p q : ℕ) → m .phase t ≡ walking op p q → key q < sought op →
@@ -142,7 +143,7 @@ module _ (key val : ℕ → ℕ) where
           let on : On start m q =
           ⊎-elim (λ a. a) (λ z. absurd (omega (arith, ap key z, high-bound op (F .0)))) (F .1 .curr-at) in
           stay-step key val start t m I (walking op p q) (walking op q (m .plain q)) e (λ x a. a) (λ x a. a)
-          (F .0, record { pred-on = on; curr-at = I .links q on .1; below = h; rise = I .links q on .0 })
+          (F .0, record { pred-on = on; curr-at = I .own .links q on .1; below = h; rise = I .own .links q on .0 })
 
       arrive-grants : (op : Op) (p q : ℕ) → m .phase t ≡ walking op p q → sought op ≤ key q →
           Grant key val start t m (after start m t stays (arrived op p q))
@@ -166,7 +167,7 @@ module _ (key val : ℕ → ℕ) where
         where
           go : (o : Option ℕ) → m .lock x ≡ o → o ≡ none
           go none e = refl
-          go (some w) e = absurd (out (I .held t x (e ∙ ap some (mine w e)) .0))
+          go (some w) e = absurd (out (I .own .held t x (e ∙ ap some (mine w e)) .0))
 
       lock-grants : (u : Update) (p q : ℕ) → m .phase t ≡ locking u p q → m .lock p ≡ none →
           Grant key val start t m (after start m t (holds p) (locked u p q))
@@ -176,7 +177,7 @@ module _ (key val : ℕ → ℕ) where
           (inl (F .stand .pred-on)) (λ x a. ⊎-elim (λ z. z) (λ z. absurd z) a) (
             Stable.reach key val start t m _ (rely-hold _ p) (insert k v) p q F,
             record { lock-p = change-same (m .lock) p (some t); lock-y = tt },
-            record { pred = I .free p l; node = tt },
+            record { pred = I .own .free p l; node = tt },
           )
       lock-grants (remove k) p q e l =
           let F = its (locking (remove k) p q) e in
@@ -184,7 +185,7 @@ module _ (key val : ℕ → ℕ) where
           (inl (F .stand .pred-on)) (λ x a. ⊎-elim (λ z. z) (λ z. absurd z) a) (
             Stable.reach key val start t m _ (rely-hold _ p) (remove k) p q F,
             change-same (m .lock) p (some t),
-            I .free p l,
+            I .own .free p l,
           )
 
       lock-curr-grants : (k p q : ℕ) → m .phase t ≡ lockingCurr k p q → m .lock q ≡ none →
@@ -198,7 +199,7 @@ module _ (key val : ℕ → ℕ) where
               lock-p = rely-hold (checking (remove k) p q) q .locks p (F .1);
               lock-y = change-same (m .lock) q (some t);
             },
-            record { pred = F .2; node = I .free q l },
+            record { pred = F .2; node = I .own .free q l },
           )
 
       -- ---- a range's steps
@@ -216,7 +217,7 @@ module _ (key val : ℕ → ℕ) where
             fine = F .0;
             from-base = omega arith;
             in-past = omega arith;
-            late = I .begun t .1;
+            late = I .own .begun t .1;
             on = on;
             ahead = S .ahead;
             reads = S .reads;
@@ -350,10 +351,10 @@ module _ (key val : ℕ → ℕ) where
           stay-step key val start t m I (following low high x s handed) idle e (λ x a. a) (λ x a. a) tt
       step-grants (hand-out low high x s handed e) = hand-grants low high x s handed e
 
-      -- ---- EVERY START AND EVERY STEP KEEPS THE INVARIANT
-      pub start-keeps : {φ : Phase} → Starts key val t m φ → Inv key val start (begun start m t φ)
+      -- ---- EVERY START AND EVERY STEP KEEPS THE LIST'S OWN
+      pub start-keeps : {φ : Phase} → Starts key val t m φ → Own key val start (begun start m t φ)
       start-keeps s = assemble key val start t m I _ (start-grants s)
 
       pub step-keeps : {o : Out} {f : Effect} {φ : Phase} → Step key val start t m o f φ →
-          Inv key val start (after start m t f φ)
+          Own key val start (after start m t f φ)
       step-keeps s = assemble key val start t m I _ (step-grants s)

@@ -1,4 +1,4 @@
--- Link and Finish keep the invariant.
+-- Link and Finish keep the list's own.
 -- In order: the mark; Link; Finish.
 -- Assumes nothing.
 use mathlib.Core.Path.{_≡_, refl, sym, _∙_, ap}
@@ -130,22 +130,21 @@ module _ (key val : ℕ → ℕ) (start : Start) (t : ℕ) (m : Drawing) (I : In
           locks = λ x l. l;
           pends = λ x a g r b. b;
         };
-        hist = I .hist;
-        once = I .once;
+        once = I .own .once;
         links = λ x o. change-cases (λ q. (key x < key q) × At start m q) (m .plain) p (predTarget u y z) x
-            (λ q. rw q (F .2 .rise, F .2 .target)) (λ _. I .links x o);
-        free = λ x l. link-coupled x (loose x l) (I .free x l);
-        held = λ x l. let a = I .held t x l in (rw (change-same (m .phase) t φ) (rw e at (a .0)), a .1);
-        settled = I .settled;
-        owned = λ x a g r b. rw (change-same (m .phase) t φ) (rw e at (I .owned t x a g r b));
-        ends = I .ends;
-        begun = I .begun t;
+            (λ q. rw q (F .2 .rise, F .2 .target)) (λ _. I .own .links x o);
+        free = λ x l. link-coupled x (loose x l) (I .own .free x l);
+        held = λ x l. let a = I .own .held t x l in (rw (change-same (m .phase) t φ) (rw e at (a .0)), a .1);
+        settled = I .own .settled;
+        owned = λ x a g r b. rw (change-same (m .phase) t φ) (rw e at (I .own .owned t x a g r b));
+        ends = I .own .ends;
+        begun = I .own .begun t;
         facts = rw (change-same (m .phase) t φ) link-facts;
       }
 
     pub link-grants : m .phase t ≡ linking u p y z c n →
         Grant key val start t m (after start m t (links u p y z) (finishing u p y z c n))
-    link-grants e = link-grant (rw e at (I .facts t)) e
+    link-grants e = link-grant (rw e at (I .own .facts t)) e
 
     -- ---- Finish
     module _ (r r₂ : Row) (bp : m .bundle p ≡ pending t c (predTarget u y z) r)
@@ -188,7 +187,7 @@ module _ (key val : ℕ → ℕ) (start : Start) (t : ℕ) (m : Drawing) (I : In
           ∙ ap (λ l. (n, nodeTarget u y z) ∷ l) (one-row (m .bundle y) t c _ _ t c _ _ (D .pend-y) by) ∙ final-same b)
           (λ _ x≡p b. ap (m .rows) x≡p ∙ D .rows-p
           ∙ ap (λ l. (n, predTarget u y z) ∷ l) (one-row (m .bundle p) t c _ _ t c _ _ (D .pend-p) bp) ∙ final-same b)
-          (λ _ _ b. I .settled x r₃ b)
+          (λ _ _ b. I .own .settled x r₃ b)
 
       finish-grant : Facts key val start m t (finishing u p y z c n) → m .phase t ≡ finishing u p y z c n →
           Grant key val start t m m₂
@@ -199,23 +198,22 @@ module _ (key val : ℕ → ℕ) (start : Start) (t : ℕ) (m : Drawing) (I : In
           locks = λ x l. without-some t (m .lock x) w l .0;
           pends = λ x a g r₃ b. still-pending w x a g r₃ b .0;
         };
-        hist = I .hist;
-        once = I .once;
-        links = I .links;
-        free = λ x l. ⊎-elim (I .free x)
-            (λ k. held-sound key val start m u p y x (F .1) (rw e at (I .held t x k .0)))
+        once = I .own .once;
+        links = I .own .links;
+        free = λ x l. ⊎-elim (I .own .free x)
+            (λ k. held-sound key val start m u p y x (F .1) (rw e at (I .own .held t x k .0)))
             (without-none t (m .lock x) l);
         held = λ x l. absurd (without-some t (m .lock x) t l .1 refl);
         settled = finish-settled (F .2);
         owned = λ x a g r₃ b. let s = still-pending t x a g r₃ b in
-            absurd (⊎-elim (s .2) (s .1) (rw e at (I .owned t x a g r₃ (s .0))));
+            absurd (⊎-elim (s .2) (s .1) (rw e at (I .own .owned t x a g r₃ (s .0))));
         ends = pair-other (m .bundle) p y _ _ tail
-            (λ q. final-pending (m .bundle p) t c _ [] r (rw q at (I .ends)) bp)
-            (λ q. final-pending (m .bundle y) t c _ [] r₂ (rw q at (I .ends)) by) ∙ I .ends;
-        begun = I .begun t;
+            (λ q. final-pending (m .bundle p) t c _ [] r (rw q at (I .own .ends)) bp)
+            (λ q. final-pending (m .bundle y) t c _ [] r₂ (rw q at (I .own .ends)) by) ∙ I .own .ends;
+        begun = I .own .begun t;
         facts = rw (change-same (m .phase) t idle) tt;
       }
 
       pub finish-grants : m .phase t ≡ finishing u p y z c n →
           Grant key val start t m (after start m t (finishes u p y z n r r₂) idle)
-      finish-grants e = finish-grant (rw e at (I .facts t)) e
+      finish-grants e = finish-grant (rw e at (I .own .facts t)) e

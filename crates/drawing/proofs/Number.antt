@@ -1,41 +1,30 @@
--- Number keeps the invariant: the log has one update more, and two effective rows have one pair more.
--- In order: keys of the set; what an insert and a remove show each in its way; what both grant.
--- Assumes nothing.
+-- Number keeps the list's own: the log has one update more, and two effective rows have one pair more.
+-- In order: what an insert and a remove show each in its way; what both grant.
+-- Not here: the history, which is kept because Number may number (Owes). Assumes nothing.
 use mathlib.Core.Path.{_≡_, refl, sym, _∙_, ap}
 use mathlib.Core.Logic.{_⊎_, inl, inr, ⊎-elim, ⊎-map, _≢_}
 use mathlib.Core.Option.{none, some}
 use mathlib.Core.List.{[], _∷_, List·Memᴰ, List·Memᴰ·head, List·Memᴰ·tail, List·Memᴰ·cases-cons}
-use Prim.Native.Nat.{ℕ, suc, _-_, _≤_, _<_}
+use Prim.Native.Nat.{ℕ, suc, _-_, _<_}
 use native.Mathlib.Decide.{ℕ-discrete}
 use native.Mathlib.Omega.{arith}
 use Rattle.order.specs.Set.{Update, insert, remove}
 use Rattle.order.specs.Rows.{Row}
-use Rattle.order.specs.History.{head, tail, next, number, Logged, rem, Log, Start, stamp, upTo, Given, said}
-use Rattle.order.specs.History.{members, History}
+use Rattle.order.specs.History.{head, tail, next, number, Logged, rem, Start, upTo, Given, said, members}
 use Rattle.order.proofs.Rows.{none-some, some-same, Relinked, number-old, number-row, number-rows, number-links}
 use Rattle.order.proofs.Sets.{put-keeps, put-new, cut-keeps}
-use Rattle.order.proofs.Chains.{chain-split, by-key, from-head, to-tail}
+use Rattle.order.proofs.Chains.{chain-split, by-key}
 use Rattle.order.proofs.Steps.{given-more, given-ins, given-rem}
-use Rattle.order.proofs.Keeps.{upTo-old, upTo-all, stamp-next, current, divided, history-insert, history-remove}
-use Rattle.order.proofs.Near.{row-fresh, link-between, set-lacks, set-has}
-use Rattle.drawing.specs.Phases.{Phase, numbering, linking, keyIn, predTarget, nodeTarget, oldNext, logged}
+use Rattle.order.proofs.Keeps.{upTo-old, upTo-all, stamp-next, current}
+use Rattle.order.proofs.Near.{link-between, set-lacks, set-has}
+use Rattle.drawing.specs.Phases.{Phase, numbering, linking, keyIn, predTarget, nodeTarget, logged}
 use Rattle.drawing.specs.Drawing.{final, pending, Drawing, now}
 use Rattle.drawing.specs.Effects.{numbers, after}
 use Rattle.drawing.specs.Answers.{inSet, wasThere, Numbered}
 use Rattle.drawing.proofs.Change.{change-same, change-other, final-pending, one-owner}
 use Rattle.drawing.proofs.Inv.{On, At, lead, Once, In, Coupled, Dated}
 use Rattle.drawing.proofs.Inv.{Facts, Inv, Kept, Rely, Grant}
-
--- ---- keys of the set lie between the head's and the tail's
-module _ (key : ℕ → ℕ) (start : Start) (rows : ℕ → Row) (log : Log) (H : History key start rows log) where
-  pub head-least : (x : ℕ) → List·Memᴰ x (head ∷ members key start log) → key head ≤ key x
-  head-least x m = from-head key (next rows (stamp start log)) x (members key start log)
-      (divided key start (next rows (stamp start log)) log (current key start rows log H) x m)
-
-  pub below-tail : (x : ℕ) → List·Memᴰ x (head ∷ members key start log) → key x < key tail
-  below-tail x m =
-      let a = divided key start (next rows (stamp start log)) log (current key start rows log H) x m in
-      to-tail key (next rows (stamp start log)) x (a .back) (a .behind)
+use Rattle.drawing.proofs.Owes.{head-least, below-tail, may-insert, may-remove}
 
 module _ (key val : ℕ → ℕ) (start : Start) (t : ℕ) (m : Drawing) (I : Inv key val start m) where
   abbrev T : ℕ
@@ -49,7 +38,6 @@ module _ (key val : ℕ → ℕ) (start : Start) (t : ℕ) (m : Drawing) (I : In
 
   -- ---- what the two kinds show each in its way
   record Kind (u : Update) (p y z c : ℕ) : Type 0 where
-    hist : History key start (number (m .rows) (suc T) p (predTarget u y z) y (nodeTarget u y z)) (logged u y ∷ m .log)
     once : Once start (logged u y ∷ m .log)
     stays : (x : ℕ) → x ≢ y → In key val start m x → In key val start (numbered u p y z c) x
     unnamed : (x : ℕ) → x ≢ y → On start (numbered u p y z c) x → On start m x
@@ -60,12 +48,6 @@ module _ (key val : ℕ → ℕ) (start : Start) (t : ℕ) (m : Drawing) (I : In
     this : said key val (logged u y) ≡ u
     was : inSet key val start (keyIn u) (m .log) ≡ wasThere u
 
-  -- pred is in the set and leads to what its plain next names
-  pub pred-now : (u : Update) (p y z c : ℕ) → Facts key val start m t (numbering u p y z c) →
-      In key val start m p × (lead start m p ≡ some (oldNext u y z))
-  pred-now u p y z c F =
-      let d = F .1 .pred (F .2 .pred-on) (F .2 .pred-gone) in (d .0, d .1 ∙ ap some (F .2 .pred-next))
-
   on-more : (w : Logged) (x : ℕ) → On start m x → (x ≡ head) ⊎ Given start x (w ∷ m .log)
   on-more w x = ⊎-map (λ e. e) (given-more start x x (m .log) w)
 
@@ -73,7 +55,7 @@ module _ (key val : ℕ → ℕ) (start : Start) (t : ℕ) (m : Drawing) (I : In
       Kind (insert k v) p y z c
   unfolding members
   insert-kind k v p y z c F =
-      let d = pred-now (insert k v) p y z c F in
+      let may = may-insert key val start t m I k v p y z c F in
       let out = F .2 .named .0 in
       let k≡ : key y ≡ k = F .2 .named .1 in
       let v≡ : val y ≡ v = F .2 .named .2 in
@@ -83,47 +65,41 @@ module _ (key val : ℕ → ℕ) (start : Start) (t : ℕ) (m : Drawing) (I : In
         e,
         F .2 .low,
         F .2 .up,
-        link-between key start (m .rows) (m .log) (I .hist) p z (d .0) (d .1) x a (omega (arith, e, F .2 .low)),
+        link-between key start (m .rows) (m .log) (I .hist) p z (may .pred-in) (may .leads) x a
+            (omega (arith, e, F .2 .low)),
       ) in
       record {
-        hist = history-insert key start (m .rows) (m .log) (I .hist) p z y (d .0) (d .1) (F .2 .low) (F .2 .up)
-            (row-fresh key start (m .rows) (m .log) (I .hist) y (λ e. out (inl (inl e))) (λ i. out (inl (inr i))));
-        once = (λ g. out (inl (inr g)), I .once);
+        once = (λ g. out (inl (inr g)), I .own .once);
         stays = λ x n i. ⊎-elim List·Memᴰ·head
             (λ a. List·Memᴰ·tail (put-keeps key x y (members key start (m .log)) a)) (List·Memᴰ·cases-cons i);
         unnamed = λ x n o. ⊎-elim inl
             (λ g. ⊎-elim (λ e. absurd (n e)) inr (given-ins start x y (m .log) g)) o;
-        unlocked = λ w x n l e. out (rw e at (I .held w x l .1));
+        unlocked = λ w x n l e. out (rw e at (I .own .held w x l .1));
         free-y = λ _. (List·Memᴰ·tail (put-new key y (members key start (m .log)) new), refl);
         rise = F .2 .low;
         target = inl (inr (inr (List·Memᴰ·head refl)));
         this = rw (k≡, v≡);
-        was = set-lacks key start (m .rows) (m .log) (I .hist) p z (d .0) (d .1) val k
+        was = set-lacks key start (m .rows) (m .log) (I .hist) p z (may .pred-in) (may .leads) val k
             (omega (arith, F .2 .low)) (omega (arith, F .2 .up));
       }
 
   remove-kind : (k p y z c : ℕ) → Facts key val start m t (numbering (remove k) p y z c) → Kind (remove k) p y z c
   unfolding members
   remove-kind k p y z c F =
-      let d = pred-now (remove k) p y z c F in
-      let y-now = F .1 .node (F .2 .named .0) (F .2 .node-gone) in
-      let least = head-least key start (m .rows) (m .log) (I .hist) p (d .0) in
+      let may = may-remove key val start t m I k p y z c F in
+      let least = head-least key start (m .rows) (m .log) (I .hist) p (may .pred-in) in
       let y≢head : y ≢ head = λ e. omega (arith, ap key e, F .2 .low, least) in
-      let a : List·Memᴰ y (members key start (m .log)) =
-      ⊎-elim (λ e. absurd (y≢head e)) (λ b. b) (List·Memᴰ·cases-cons (y-now .0)) in
       let snap = current key start (m .rows) (m .log) (I .hist) in
       let chain = chain-split key (next (m .rows) T) head (members key start (m .log)) (tail ∷ []) (snap .walk) .0 in
-      let leads : lead start m y ≡ some z = y-now .1 ∙ ap some (F .2 .node-next) in
       record {
-        hist = history-remove key start (m .rows) (m .log) (I .hist) p y z (d .0) (d .1) a leads;
         once = (
           ⊎-elim (λ e. absurd (y≢head e)) (λ g. g) (F .2 .named .0),
-          λ r. omega (arith, ap key (some-same leads (snap .gone y r)), F .2 .low, F .2 .up, least),
-          I .once,
+          λ r. omega (arith, ap key (some-same (may .leads-on) (snap .gone y r)), F .2 .low, F .2 .up, least),
+          I .own .once,
         );
         stays = λ x n i. ⊎-elim List·Memᴰ·head
             (λ b. List·Memᴰ·tail (cut-keeps key x (key y) (members key start (m .log))
-            (λ e. n (by-key key (next (m .rows) T) head x y (members key start (m .log)) chain b a e)) b))
+            (λ e. n (by-key key (next (m .rows) T) head x y (members key start (m .log)) chain b (may .curr-in) e)) b))
             (List·Memᴰ·cases-cons i);
         unnamed = λ x n o. ⊎-map (λ e. e) (given-rem start x y (m .log)) o;
         unlocked = λ w x n l e. n (some-same (rw e at l) (F .0 .lock-y));
@@ -131,8 +107,12 @@ module _ (key val : ℕ → ℕ) (start : Start) (t : ℕ) (m : Drawing) (I : In
         rise = omega (arith, F .2 .low, F .2 .up);
         target = ⊎-map (on-more (rem y) z) (λ e. e) (F .2 .behind);
         this = ap remove (F .2 .named .1);
-        was = set-has key start (m .rows) (m .log) (I .hist) p y (d .0) (d .1) val k (F .2 .named .1)
-            (omega (arith, F .2 .named .1, below-tail key start (m .rows) (m .log) (I .hist) y (y-now .0)));
+        was = set-has key start (m .rows) (m .log) (I .hist) p y (may .pred-in) (may .leads) val k (F .2 .named .1)
+            (omega (
+              arith,
+              F .2 .named .1,
+              below-tail key start (m .rows) (m .log) (I .hist) y (List·Memᴰ·tail (may .curr-in)),
+            ));
       }
 
   kind : (u : Update) (p y z c : ℕ) → Facts key val start m t (numbering u p y z c) → Kind u p y z c
@@ -210,7 +190,7 @@ module _ (key val : ℕ → ℕ) (start : Start) (t : ℕ) (m : Drawing) (I : In
       it = logged u y;
       this = K .this;
       there = upTo-all start (suc T) (m′ .log) (omega (arith, stamp′)) ∙ ap (λ l. logged u y ∷ l) (sym before);
-      late = omega (arith, I .begun t .1);
+      late = omega (arith, I .own .begun t .1);
       in-log = omega (arith, stamp′);
       was = ap (inSet key val start (keyIn u)) before ∙ K .was;
     }
@@ -234,13 +214,13 @@ module _ (key val : ℕ → ℕ) (start : Start) (t : ℕ) (m : Drawing) (I : In
       | yes e ↦ let a = K .free-y (rw e at l) in
           rw e (a .0, lead′ y (nodeTarget u y z) (relinked .two) ∙ ap some (a .1 ∙ sym (F .2 .node-next)))
       | no n ↦ let k = kept x (λ e. none-some (m .lock p) t (rw e at l) (F .0 .lock-p), n) in
-          let d = I .free x l (k .unnamed o) g in (k .stays (d .0), k .leads ∙ d .1)
+          let d = I .own .free x l (k .unnamed o) g in (k .stays (d .0), k .leads ∙ d .1)
     ]
 
     number-links-up : (x : ℕ) → On start m′ x → (key x < key (m .plain x)) × At start m′ (m .plain x)
     number-links-up x o = elim (ℕ-discrete x y) [
       | yes e ↦ rw (e, F .2 .node-next) (F .2 .up, at-on z (F .2 .behind))
-      | no n ↦ let d = I .links x (K .unnamed x n o) in (d .0, at-on (m .plain x) (d .1))
+      | no n ↦ let d = I .own .links x (K .unnamed x n o) in (d .0, at-on (m .plain x) (d .1))
     ]
 
     not-final : (x : ℕ) (r : Row) → m .bundle x ≡ final r → (x ≢ p) × (x ≢ y)
@@ -254,7 +234,7 @@ module _ (key val : ℕ → ℕ) (start : Start) (t : ℕ) (m : Drawing) (I : In
       record { lock-p = F .0 .lock-p; lock-y = F .0 .lock-y },
       dated,
       record {
-        pred-in = K .stays p p≢y (pred-now u p y z c F .0);
+        pred-in = K .stays p p≢y (F .1 .pred (F .2 .pred-on) (F .2 .pred-gone) .0);
         pred-lead = lead′ p (predTarget u y z) (relinked .one);
         rise = K .rise;
         target = K .target;
@@ -271,21 +251,20 @@ module _ (key val : ℕ → ℕ) (start : Start) (t : ℕ) (m : Drawing) (I : In
         locks = λ x l. l;
         pends = λ x a g r b. b;
       };
-      hist = K .hist;
       once = K .once;
       links = number-links-up;
       free = number-free;
-      held = λ x l. let a = I .held t x l in
+      held = λ x l. let a = I .own .held t x l in
           (rw (change-same (m .phase) t (next-phase u p y z c)) (rw e at (a .0)), at-on x (a .1));
-      settled = λ x r b. kept x (not-final x r b) .row ∙ I .settled x r b;
-      owned = λ x a g r b. rw (change-same (m .phase) t (next-phase u p y z c)) (rw e at (I .owned t x a g r b));
-      ends = I .ends;
-      begun = (I .begun t .0, omega (arith, I .begun t .1, stamp′));
+      settled = λ x r b. kept x (not-final x r b) .row ∙ I .own .settled x r b;
+      owned = λ x a g r b. rw (change-same (m .phase) t (next-phase u p y z c)) (rw e at (I .own .owned t x a g r b));
+      ends = I .own .ends;
+      begun = (I .own .begun t .0, omega (arith, I .own .begun t .1, stamp′));
       facts = rw (change-same (m .phase) t (next-phase u p y z c)) number-facts;
     }
 
   pub number-grants : (u : Update) (p y z c : ℕ) → m .phase t ≡ numbering u p y z c →
       Grant key val start t m (after start m t (numbers u p y z) (linking u p y z c (suc (now start m))))
   number-grants u p y z c e =
-      let F : Facts key val start m t (numbering u p y z c) = rw e at (I .facts t) in
+      let F : Facts key val start m t (numbering u p y z c) = rw e at (I .own .facts t) in
       number-grant u p y z c F (kind u p y z c F) e

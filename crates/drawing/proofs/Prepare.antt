@@ -1,4 +1,4 @@
--- Prepare keeps the invariant: two pending entries are laid, and no effective row changes.
+-- Prepare keeps the list's own: two pending entries are laid, and no effective row changes.
 -- In order: what laying grants, for both kinds; an insert's Prepare; a remove's.
 -- Assumes nothing.
 use mathlib.Core.List.{[]}
@@ -44,7 +44,7 @@ module _ (key val : ℕ → ℕ) (start : Start) (t : ℕ) (m : Drawing) (I : In
       locks = λ x l. l;
       pends = λ x c g r₃ b. let n = not-ours w x c g r₃ b in pair-other (m .bundle) p y _ _ x (n .0) (n .1) ∙ b;
       kept = λ x mine.
-          let s = same x (⊎-elim (λ l. inr (I .held w x l .1))
+          let s = same x (⊎-elim (λ l. inr (I .own .held w x l .1))
           (λ b. inl (not-ours w x (b .0) (b .1) (b .2) (b .3) .1)) mine) in
           record { plain = s .0; gone = s .1; row = refl; leads = refl; stays = λ i. i; unnamed = λ o. o };
       past = λ s _. (refl, refl);
@@ -72,20 +72,19 @@ module _ (key val : ℕ → ℕ) (start : Start) (t : ℕ) (m : Drawing) (I : In
         locks = λ x l. l;
         pends = λ x c g r₃. lay-apart w x c g r₃ n;
       };
-      hist = I .hist;
-      once = I .once;
-      links = λ x o. let s = same x (inr (inl o)) in rw (s .0) (I .links x o);
-      free = λ x l. lay-coupled x (I .free x l);
-      held = λ x l. let a = I .held t x l in (rw (change-same (m .phase) t φ) (holds x (rw e at (a .0))), a .1);
+      once = I .own .once;
+      links = λ x o. let s = same x (inr (inl o)) in rw (s .0) (I .own .links x o);
+      free = λ x l. lay-coupled x (I .own .free x l);
+      held = λ x l. let a = I .own .held t x l in (rw (change-same (m .phase) t φ) (holds x (rw e at (a .0))), a .1);
       settled = λ x r₃. pair-cases (λ b. b ≡ final r₃ → m .rows x ≡ r₃) (m .bundle) p y _ _ x
           (λ _ b. final-pending _ t _ _ r₃ _ b refl) (λ _ _ b. final-pending _ t _ _ r₃ _ b refl)
-          (λ _ _ b. I .settled x r₃ b);
+          (λ _ _ b. I .own .settled x r₃ b);
       owned = λ x c g r₃ b. rw (change-same (m .phase) t φ)
           (pair-cases (λ b₀. b₀ ≡ pending t c g r₃ → (x ≡ p) ⊎ (x ≡ y)) (m .bundle) p y _ _ x
           (λ a _. inr a) (λ _ a _. inl a)
-          (λ _ _ b₁. absurd (none-pends x (rw e at (I .owned t x c g r₃ b₁)))) b);
-      ends = pair-other (m .bundle) p y _ _ tail tail≢p tail≢y ∙ I .ends;
-      begun = I .begun t;
+          (λ _ _ b₁. absurd (none-pends x (rw e at (I .own .owned t x c g r₃ b₁)))) b);
+      ends = pair-other (m .bundle) p y _ _ tail tail≢p tail≢y ∙ I .own .ends;
+      begun = I .own .begun t;
       facts = rw (change-same (m .phase) t φ) F;
     }
 
@@ -94,10 +93,10 @@ module _ (key val : ℕ → ℕ) (start : Start) (t : ℕ) (m : Drawing) (I : In
       (final-p : m .bundle p ≡ final r) (unused : m .bundle n ≡ final []) (n≢tail : n ≢ tail)
       (n-key : key n ≡ k) (n-val : val n ≡ v) where
     abbrev F : Facts key val start m t (preparing (insert k v) p q)
-    F = rw e at (I .facts t)
+    F = rw e at (I .own .facts t)
 
     out : ¬ At start m n
-    out = ⊎-elim (λ o. row-given key start (m .rows) (m .log) (I .hist) n o (I .settled n [] unused)) n≢tail
+    out = ⊎-elim (λ o. row-given key start (m .rows) (m .log) (I .hist) n o (I .own .settled n [] unused)) n≢tail
 
     p≢n : p ≢ n
     p≢n z = out (inl (rw z at (F .0 .stand .pred-on)))
@@ -114,8 +113,8 @@ module _ (key val : ℕ → ℕ) (start : Start) (t : ℕ) (m : Drawing) (I : In
     insert-laid : Laid key val start (m′ (insert k v) p n q r [] final-p unused same-else)
         t (insert k v) p n q (now start m)
     insert-laid = record {
-      pend-p = rw (I .settled p r final-p) (pair-first (m .bundle) p n _ _ p≢n);
-      pend-y = rw (I .settled n [] unused) (change-same _ n _);
+      pend-p = rw (I .own .settled p r final-p) (pair-first (m .bundle) p n _ _ p≢n);
+      pend-y = rw (I .own .settled n [] unused) (change-same _ n _);
       carried = omega arith;
       pred-on = F .0 .stand .pred-on;
       pred-gone = same-else p (inl p≢n) .1 ∙ F .3 .0;
@@ -142,7 +141,7 @@ module _ (key val : ℕ → ℕ) (start : Start) (t : ℕ) (m : Drawing) (I : In
   module _ (k p q : ℕ) (r r₂ : Row) (e : m .phase t ≡ preparing (remove k) p q)
       (final-p : m .bundle p ≡ final r) (final-q : m .bundle q ≡ final r₂) where
     abbrev G : Facts key val start m t (preparing (remove k) p q)
-    G = rw e at (I .facts t)
+    G = rw e at (I .own .facts t)
 
     p≢q : p ≢ q
     p≢q z = omega (arith, ap key z, G .0 .stand .rise)
@@ -157,17 +156,17 @@ module _ (key val : ℕ → ℕ) (start : Start) (t : ℕ) (m : Drawing) (I : In
         (m′ (remove k) p q (m .plain q) r r₂ final-p final-q (λ x _. (refl, refl)))
         t (remove k) p q (m .plain q) (now start m)
     remove-laid = record {
-      pend-p = rw (I .settled p r final-p) (pair-first (m .bundle) p q _ _ p≢q);
-      pend-y = rw (I .settled q r₂ final-q) (change-same _ q _);
+      pend-p = rw (I .own .settled p r final-p) (pair-first (m .bundle) p q _ _ p≢q);
+      pend-y = rw (I .own .settled q r₂ final-q) (change-same _ q _);
       carried = omega arith;
       pred-on = G .0 .stand .pred-on;
       pred-gone = G .3 .0;
       pred-next = G .3 .1;
       node-gone = G .3 .2;
       node-next = refl;
-      behind = I .links q q-on .1;
+      behind = I .own .links q q-on .1;
       low = G .0 .stand .rise;
-      up = I .links q q-on .0;
+      up = I .own .links q q-on .0;
       named = (q-on, G .4);
     }
 

@@ -27,12 +27,12 @@ use Rattle.drawing.specs.Phases.{Phase, idle, walking, locking, lockingC
 use Rattle.drawing.specs.Phases.{linking, finishing, seeking, fixing, following, handing}
 use Rattle.drawing.specs.Drawing.{final, pending, shown, Drawing, now}
 use Rattle.drawing.specs.Effects.{numbers, after}
+use Rattle.drawing.specs.Steps.{number-it}
 use Rattle.drawing.proofs.Change.{final-pending}
 use Rattle.drawing.proofs.Ahead.{Distinct, chain-distinct}
 use Rattle.drawing.proofs.Inv.{On, At, Once, Facts, Inv}
-use Rattle.drawing.proofs.Quiet.{assemble}
-use Rattle.drawing.proofs.Number.{number-grants}
 use Rattle.drawing.proofs.Keeps.{read-right, newest-right, past-target, now-target}
+use Rattle.drawing.proofs.Shape.{stepped-inv}
 
 -- ---- counting
 split : {A : Type 0} (x : A) (l : List A) → List·Memᴰ x l → (a : List A) × (b : List A) × (l ≡ a ++ (x ∷ b))
@@ -163,7 +163,7 @@ module _ (key : ℕ → ℕ) (start : Start) (f : ℕ → Option ℕ) (log : Log
 module _ (key val : ℕ → ℕ) (start : Start) (m : Drawing) (I : Inv key val start m) where
   -- ---- a given node has an entry
   pub on-used : (x : ℕ) → On start m x → m .bundle x ≢ final []
-  on-used x on empty = row-given key start (m .rows) (m .log) (I .hist) x on (I .settled x [] empty)
+  on-used x on empty = row-given key start (m .rows) (m .log) (I .hist) x on (I .own .settled x [] empty)
 
   pub at-used : (x : ℕ) → At start m x → Used m x
   at-used x = ⊎-map (on-used x) (λ e. e)
@@ -205,22 +205,22 @@ module _ (key val : ℕ → ℕ) (start : Start) (m : Drawing) (I : Inv key val 
   names-in t (handing low high y s handed) F x n = rw n (inl (on-used y (past-on s y (F .2 .on))))
 
   pub names-used : (t x : ℕ) → Names (m .phase t) x → Used m x
-  names-used t x n = names-in t (m .phase t) (I .facts t) x n
+  names-used t x n = names-in t (m .phase t) (I .own .facts t) x n
 
   -- ---- AND SO IS WHERE THEIR LINKS LEAD: a plain link, the newest entry, the entry taken at a snapshot
   pub plain-used : (x : ℕ) → On start m x → Used m (m .plain x)
-  plain-used x on = at-used (m .plain x) (I .links x on .1)
+  plain-used x on = at-used (m .plain x) (I .own .links x on .1)
 
   pub newest-used : (t k x q : ℕ) → m .phase t ≡ seeking k x → readNewest (shown (m .bundle x)) ≡ found (some q) →
       Used m q
   newest-used t k x q e answer =
-      let F : Facts key val start m t (seeking k x) = rw e at (I .facts t) in
+      let F : Facts key val start m t (seeking k x) = rw e at (I .own .facts t) in
       at-used q (now-target key val start m I x q (F .1) (newest-right key val start m I x (some q) answer))
 
   pub follow-used : (t low high x s q : ℕ) (handed : List Pair) → m .phase t ≡ following low high x s handed →
       readAt s (shown (m .bundle x)) ≡ found (some q) → Used m q
   follow-used t low high x s q handed e answer =
-      let F : Facts key val start m t (following low high x s handed) = rw e at (I .facts t) in
+      let F : Facts key val start m t (following low high x s handed) = rw e at (I .own .facts t) in
       let link = read-right key val start m I s x (some q) answer in
       at-used q (⊎-map (past-on s q) (λ z. z)
       (past-target key val start m I s x q (F .from-base) (F .in-past) (F .on) link))
@@ -251,7 +251,7 @@ module _ (key val : ℕ → ℕ) (start : Start) (m : Drawing) (I : Inv key val 
   pub hand-room : (all : List ℕ) → Covers all m → (t low high x s : ℕ) (handed : List Pair) →
       m .phase t ≡ handing low high x s handed → length handed < length all
   hand-room all C t low high x s handed e =
-      let F : Facts key val start m t (handing low high x s handed) = rw e at (I .facts t) in
+      let F : Facts key val start m t (handing low high x s handed) = rw e at (I .own .facts t) in
       let rest = map (entry key val) (within key low high (F .2 .ahead)) in
       omega (
         arith,
@@ -268,10 +268,10 @@ module _ (key val : ℕ → ℕ) (start : Start) (m : Drawing) (I : Inv key val 
       omega (
         arith,
         log-length log,
-        distinct-length (inserts log) all (inserts-distinct start log (I .once))
+        distinct-length (inserts log) all (inserts-distinct start log (I .own .once))
             (λ x k. given-covered all C x (inserts-given start x log k)),
-        distinct-length (removes log) all (removes-distinct start log (I .once))
-            (λ x k. given-covered all C x (removes-given start x log (I .once) k)),
+        distinct-length (removes log) all (removes-distinct start log (I .own .once))
+            (λ x k. given-covered all C x (removes-given start x log (I .own .once) k)),
       )
 
 -- before a Number there is room for one more
@@ -279,7 +279,7 @@ pub number-room : (key val : ℕ → ℕ) (start : Start) (m : Drawing) (I : Inv
     Covers all m → (t : ℕ) (u : Update) (p y z c : ℕ) → m .phase t ≡ numbering u p y z c →
     length (m .log) < 2 * length all
 number-room key val start m I all C t u p y z c e =
-    let J = assemble key val start t m I _ (number-grants key val start t m I u p y z c e) in
+    let J = stepped-inv key val start I t (number-it u p y z c e) in
     omega (
       arith,
       log-room key val start

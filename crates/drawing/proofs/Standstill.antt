@@ -49,7 +49,7 @@ module _ (key val : ℕ → ℕ) (start : Start) (m : Drawing) (I : Inv key val 
   -- ---- whose pending entry it is, goes
   pending-goes : (x : ℕ) → Pending m x → SomeGoes
   pending-goes x h =
-      let d = newest-wait (m .bundle x) h in pends-goes (d .0) x (I .owned (d .0) x (d .1) (d .2) (d .3) (d .4))
+      let d = newest-wait (m .bundle x) h in pends-goes (d .0) x (I .own .owned (d .0) x (d .1) (d .2) (d .3) (d .4))
 
   -- ---- who holds the lock of `x` goes, or waits for a lock of a greater key
   unfoldable Further : ℕ → Type 0
@@ -79,9 +79,10 @@ module _ (key val : ℕ → ℕ) (start : Start) (m : Drawing) (I : Inv key val 
 
   holder : (x w : ℕ) → m .lock x ≡ some w → SomeGoes ⊎ Further x
   holder x w l =
-      let h = I .held w x l .0 in
+      let h = I .own .held w x l .0 in
       ⊎-elim (λ i. absurd (holds-busy (m .phase w) x h i))
-      (⊎-elim (waits-further x w (m .phase w) (I .facts w) h) (λ g. inl (w, g))) (goes-or-waits key val start m I w)
+      (⊎-elim (waits-further x w (m .phase w) (I .own .facts w) h) (λ g. inl (w, g)))
+      (goes-or-waits key val start m I w)
 
   -- keys end at the tail's
   holder-goes : (n x w : ℕ) → m .lock x ≡ some w → key tail ≤ key x + n → SomeGoes
@@ -103,7 +104,7 @@ module _ (key val : ℕ → ℕ) (start : Start) (m : Drawing) (I : Inv key val 
   waits-goes t (seeking k x) a = pending-goes x a
   waits-goes t (fixing low high p) a = absurd a
   waits-goes t (following low high x s handed) a =
-      let d = read-wait s (m .bundle x) a in pends-goes (d .0) x (I .owned (d .0) x (d .1) (d .2) (d .3) (d .4))
+      let d = read-wait s (m .bundle x) a in pends-goes (d .0) x (I .own .owned (d .0) x (d .1) (d .2) (d .3) (d .4))
   waits-goes t (handing low high x s handed) a = absurd a
 
   -- ---- IF SOME SESSION IS BUSY, SOME SESSION GOES

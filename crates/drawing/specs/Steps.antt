@@ -1,5 +1,5 @@
 -- The control of document 01's steps: from phase to phase, with guards; each step has an answer and an effect.
--- In order: answers; Lock; Check; keys; starting; steps; what starts and steps reach; when a step waits.
+-- In order: answers; Lock; Check; keys; starting; steps; how drawings go on; when a step waits.
 -- A step that waits changes nothing: it is no `Step`.
 -- Not here: what an effect changes (Effects); whether a node is left, by which words choose between full and laying;
 -- what answers say (Answers). Assumes nothing.
@@ -15,7 +15,7 @@ use Rattle.order.specs.History.{head, tail, Start, entry}
 use Rattle.drawing.specs.Phases.{Op, upd, has, range, keyIn, sought, predTarget, nodeTarget, OfRemove}
 use Rattle.drawing.specs.Phases.{Phase, idle, walking, locking, lockingCurr, checking, preparing, numbering}
 use Rattle.drawing.specs.Phases.{linking, finishing, seeking, fixing, following, handing, arrived, locked}
-use Rattle.drawing.specs.Drawing.{final, pending, shown, Drawing, now, beginning}
+use Rattle.drawing.specs.Drawing.{final, pending, shown, Drawing, now}
 use Rattle.drawing.specs.Effects.{Effect, stays, holds, leaves, lays, numbers, links, finishes, after, begun}
 
 -- ---- answers
@@ -114,12 +114,10 @@ module _ (key val : ℕ → ℕ) where
       hand-out : (low high x s : ℕ) (handed : List Pair) → m .phase t ≡ handing low high x s handed →
           Step t m (key-value (key x) (val x)) stays (following low high x s (handed ++ (entry key val x ∷ [])))
 
-    -- ---- what starts and steps reach from the beginning, each on the drawing that the last one left
-    pub data Reached : Drawing → Type 0 where
-      begins : Reached (beginning start)
-      started : {m : Drawing} (t : ℕ) {φ : Phase} → Reached m → Starts t m φ → Reached (begun start m t φ)
-      stepped : {m : Drawing} (t : ℕ) {o : Out} {f : Effect} {φ : Phase} → Reached m → Step t m o f φ →
-          Reached (after start m t f φ)
+    -- ---- drawings go on by starts and steps of any session, each on the drawing that the last one left
+    pub data GoesOn (m : Drawing) : Drawing → Type 0 where
+      starting : (t : ℕ) {φ : Phase} → Starts t m φ → GoesOn m (begun start m t φ)
+      stepping : (t : ℕ) {o : Out} {f : Effect} {φ : Phase} → Step t m o f φ → GoesOn m (after start m t f φ)
 
 -- ---- when a step waits. The newest entry is pending
 abbrev pub Pending : Drawing → ℕ → Type 0

@@ -29,6 +29,7 @@ use Rattle.steps.specs.Steps.{done, Tables, tables, idle, counted, raised, layI
 use Rattle.register.specs.Register.{fits}
 use Rattle.sixteen.specs.declared.Call.{Call}
 use Rattle.reached.specs.Reached.{State}
+use Rattle.reached.proofs.History.{at-same}
 use Rattle.listing.specs.Listing.{rising}
 use Rattle.listing.proofs.Pairs.{rising-on}
 use Rattle.loading.specs.Filing.{used, predOf, preparedNodes, filedNodes, preparedEntries}
@@ -116,6 +117,10 @@ left-filed e f g = cc
 -- ---- on tables with i keys filed
 module _ (z : Size) (i top k v : ℕ) (ns es : List ℕ) (F : Filed z i top ns es) (above : top < k) (key : k < tailKey)
     (rn : i + 3 ≤ z .nodes) (re : 2 * i + 3 ≤ z .entries) (ru : i < z .updates) where
+  -- working leaves session 0 its operation
+  follow : (f : ℕ → Op) → f 0 ≡ Op.Insert k v → f 0 ≡ Op.Insert k v
+  follow f e = e
+
   -- ---- the walk: i moves
   abbrev walkAt : ℕ → Session
   walkAt j = at k v (Phase.Walk (predOf j) (nextAt ns (predOf j)))
@@ -128,7 +133,8 @@ module _ (z : Size) (i top k v : ℕ) (ns es : List ℕ) (F : Filed z i top ns e
       let lower : keyAt ns (nextAt ns (predOf j)) < k = rw (F .next j h) (omega (arith, F .keys j h)) in
       rw (← F .next j h)
       (steps-on z ns es (used i) (F .fit) (walkAt j) refl ns es _
-      (ap (λ r. done ns es r) (walk-moves z ns es (used i) k v (predOf j) (nextAt ns (predOf j)) below lower)) refl)
+      (ap (λ r. done ns es r) (walk-moves z ns es (used i) k v (predOf j) (nextAt ns (predOf j)) below lower))
+      follow refl)
 
   walks : (m j : ℕ) → j + m ≡ i →
       Goes z (alone ns es (used i) (walkAt j)) (replicate m (Call.Step 0)) (alone ns es (used i) (walkAt i))
@@ -207,13 +213,14 @@ module _ (z : Size) (i top k v : ℕ) (ns es : List ℕ) (F : Filed z i top ns e
       let high : k ≤ keyAt ns 1 = rw (F .tail) (omega arith) in
       rw (F .last)
       (steps-on z ns es (used i) (F .fit) (at k v (Phase.Walk p 1)) refl ns es _
-      (ap (λ r. done ns es r) (walk-arrives z ns es (used i) k v p 1 (omega arith) high)) refl)
+      (ap (λ r. done ns es r) (walk-arrives z ns es (used i) k v p 1 (omega arith) high))
+      follow refl)
 
   takes-lock : Goes z (alone ns es (used i) (at k v (Phase.Lock p 1))) (Call.Step 0 ∷ [])
       (alone locked es (used i) (at k v (Phase.Check p 1))) (Answer.Working ∷ []) []
   takes-lock =
       steps-on z ns es (used i) (F .fit) (at k v (Phase.Lock p 1)) refl locked es _
-      (locks z ns es (used i) k v p in-table (F .lock)) refl
+      (locks z ns es (used i) k v p in-table (F .lock)) follow refl
 
   passes-check : Goes z (alone locked es (used i) (at k v (Phase.Check p 1))) (Call.Step 0 ∷ [])
       (alone locked es (used i) (at k v (Phase.Prepare p 1))) (Answer.Working ∷ []) []
@@ -221,7 +228,7 @@ module _ (z : Size) (i top k v : ℕ) (ns es : List ℕ) (F : Filed z i top ns e
       let tail : keyAt locked 1 ≡ tailKey = locked-else 1 0 (omega arith) ∙ F .tail in
       steps-on z locked es (used i) locked-fits (at k v (Phase.Check p 1)) refl locked es _
       (checks z locked es (used i) k v p in-table (locked-else p 4 (omega arith) ∙ F .removed)
-      (locked-else p 2 (omega arith) ∙ F .last) (omega arith) (λ e. omega arith)) refl
+      (locked-else p 2 (omega arith) ∙ F .last) (omega arith) (λ e. omega arith)) follow refl
 
   lays-both : Goes z (alone locked es (used i) (at k v (Phase.Prepare p 1))) (Call.Step 0 ∷ [])
       (alone laidNodes laidEntries (counted (used i) (i + 2 + 1))
@@ -229,7 +236,7 @@ module _ (z : Size) (i top k v : ℕ) (ns es : List ℕ) (F : Filed z i top ns e
   lays-both =
       steps-on z locked es (used i) locked-fits (at k v (Phase.Prepare p 1)) refl laidNodes laidEntries _
       (prepares z locked es (used i) k v p in-table held-free (omega arith) (omega arith) laidNodes laidEntries lays)
-      refl
+      follow refl
 
   abbrev after : Counters
   after = raised (counted (used i) (i + 2 + 1))
@@ -243,7 +250,7 @@ module _ (z : Size) (i top k v : ℕ) (ns es : List ℕ) (F : Filed z i top ns e
       steps-numbered z laidNodes laidEntries (counted (used i) (i + 2 + 1)) laid-fits
       (at k v (Phase.Number p (i + 2) (2 * i + 1) (2 * i + 1 + 1))) refl laidNodes laidEntries _
       (numbers z laidNodes laidEntries (counted (used i) (i + 2 + 1)) k v p (i + 2) (2 * i + 1) (2 * i + 1 + 1) ru)
-      k v refl (omega arith)
+      follow k v refl (omega arith)
 
   links-on : Goes z
       (alone laidNodes laidEntries after (at k v (Phase.Link p (i + 2) (2 * i + 1) (2 * i + 1 + 1) (i + 1))))
@@ -253,7 +260,7 @@ module _ (z : Size) (i top k v : ℕ) (ns es : List ℕ) (F : Filed z i top ns e
   links-on =
       steps-on z laidNodes laidEntries after laid-fits
       (at k v (Phase.Link p (i + 2) (2 * i + 1) (2 * i + 1 + 1) (i + 1))) refl linkedNodes laidEntries _
-      (links z laidNodes laidEntries after k v p in-table (i + 2) (2 * i + 1) (2 * i + 1 + 1) (i + 1)) refl
+      (links z laidNodes laidEntries after k v p in-table (i + 2) (2 * i + 1) (2 * i + 1 + 1) (i + 1)) follow refl
 
   ends-inserted : Goes z
       (alone linkedNodes laidEntries after (at k v (Phase.Finish p (i + 2) (2 * i + 1) (2 * i + 1 + 1) (i + 1))))
@@ -264,7 +271,7 @@ module _ (z : Size) (i top k v : ℕ) (ns es : List ℕ) (F : Filed z i top ns e
       steps-on z linkedNodes laidEntries after linked-fits
       (at k v (Phase.Finish p (i + 2) (2 * i + 1) (2 * i + 1 + 1) (i + 1))) refl _ _ _
       (finishes z linkedNodes laidEntries after k v p in-table (i + 2) (2 * i + 1) (2 * i + 1 + 1) (i + 1)
-      (omega arith) (omega arith)) refl
+      (omega arith) (omega arith)) (λ f _. at-same f 0 Op.None) refl
 
   -- they leave the tables with the key filed
   nodes-filed : unlocked linkedNodes p ≡ nodesWith i k v ns

@@ -4,7 +4,7 @@
 -- same for document 01's size; P12.
 -- Assumes nothing.
 use Prim.Native.Nat.{ℕ, zero, suc, _+_, _≤_}
-use mathlib.Core.Path.{_≡_, refl, sym, _∙_, ap}
+use mathlib.Core.Path.{_≡_, refl, sym, _∙_, ap, fun-ext}
 use mathlib.Core.Bool.{Bool, true, false, cond}
 use mathlib.Core.List.{List, [], _∷_, _++_, append-nil}
 use native.Mathlib.Omega.{arith}
@@ -14,7 +14,9 @@ use Rattle.order.proofs.Sets.{set-rises}
 use Rattle.terms.specs.Terms.{small}
 use Rattle.terms.specs.declared.Size.{Size}
 use Rattle.terms.specs.declared.Counters.{Counters}
+use Rattle.terms.specs.declared.Op.{Op}
 use Rattle.terms.specs.declared.Refusal.{Refusal}
+use Rattle.steps.specs.declared.Session.{Session}
 use Rattle.steps.specs.Steps.{Tables, tables, idle}
 use Rattle.register.specs.declared.Opened.{Opened}
 use Rattle.register.specs.Register.{fits, freshNodes, freshEntries, freshCounters, freshOf}
@@ -23,6 +25,7 @@ use Rattle.sixteen.specs.declared.Call.{Call}
 use Rattle.sixteen.specs.Sixteen.{freshRegister}
 use Rattle.reached.specs.Reached.{Past, noPast, Reached, fresh}
 use Rattle.reached.specs.Fair.{AllInWords}
+use Rattle.reached.proofs.History.{getD-default}
 use Rattle.text.specs.Text.{classOf, withDigit, grow, grows, numberIn, ends, linesOf, startsWith, fieldIn}
 use Rattle.text.proofs.Basics.{impossible}
 use Rattle.listing.specs.Listing.{rising}
@@ -36,7 +39,7 @@ use Rattle.loading.specs.declared.Loaded.{Loaded}
 use Rattle.loading.proofs.Refusals.{fits-lengths}
 use Rattle.loading.proofs.Trip.{Roomy, LoadedAs, loaded-holds}
 use Rattle.loaded.specs.Calls.{inserting, filing, filedSo, inserts, pairsOf, keysIn, valuesIn, pastAfter}
-use Rattle.loaded.specs.Calls.{alone, opened, emptyListing, Goes}
+use Rattle.loaded.specs.Calls.{alone, opened, emptyListing, Knows, Goes}
 use Rattle.loaded.proofs.Goes.{goes-as, reached-after}
 use Rattle.loaded.proofs.Filed.{fresh-filed}
 use Rattle.loaded.proofs.Filing.{holding, inserts-all}
@@ -133,15 +136,20 @@ module _ (z : Size) (roomy : Roomy z) (updates : z .keys ≤ z .updates) (s ns e
   fresh-reached =
       fresh ns es (freshNodes ns) (freshEntries es) freshCounters (let fit = read .fit in rw fit)
 
+  fresh-known : Knows (opened ns es) noPast
+  fresh-known who = ap (λ (x : Session). x .op) (sym (getD-default 16 who idle))
+
   pub loaded-reached-with : (h : Past)
       × Reached z (record { nodes = ns′; entries = es′; register = freshRegister c }) h
-      × (h .updates ≡ inserts (keysIn s) (valuesIn s))
+      × (h .updates ≡ inserts (keysIn s) (valuesIn s)) × (h .under ≡ λ who. Op.None)
   loaded-reached-with = (
     pastAfter z (opened ns es) (filing 0 (keysIn s) (valuesIn s)) noPast,
     rw (loaded-inserts .ends) at
         (reached-after z (opened ns es) noPast (filing 0 (keysIn s) (valuesIn s)) fresh-reached
         (filing-words (keysIn s) (valuesIn s) 0 0 (read .up))),
-    loaded-inserts .numbered noPast ∙ append-nil (inserts (keysIn s) (valuesIn s)),
+    loaded-inserts .numbered noPast fresh-known ∙ append-nil (inserts (keysIn s) (valuesIn s)),
+    fun-ext (λ who. loaded-inserts .known noPast fresh-known who ∙
+        ap (λ (x : Session). x .op) (getD-default 16 who idle)),
   )
 
   -- ---- and its set is the listing's pairs, rising
@@ -155,7 +163,7 @@ module _ (z : Size) (roomy : Roomy z) (updates : z .keys ≤ z .updates) (s ns e
 pub loaded-reached : (s ns es ns′ es′ : List ℕ) (c : Counters) →
     loadOf small s ns es ≡ done (tables ns′ es′) (Loaded.Register c) →
     (h : Past) × Reached small (record { nodes = ns′; entries = es′; register = freshRegister c }) h
-    × (h .updates ≡ inserts (keysIn s) (valuesIn s))
+    × (h .updates ≡ inserts (keysIn s) (valuesIn s)) × (h .under ≡ λ who. Op.None)
 loaded-reached s ns es ns′ es′ c told = loaded-reached-with small small-roomy (omega arith) s ns es ns′ es′ c told
 
 pub loaded-set-now : (s ns es ns′ es′ : List ℕ) (c : Counters) →

@@ -1,8 +1,8 @@
 -- The steps of session 0's insert where nothing is in its way: each phase over plain values.
 -- In order: a start and a step of session 0; Walk; Lock; Check; Prepare; Number; Link; Finish.
 -- Not here: which tables are so (Filed). Assumes nothing.
-use Prim.Native.Nat.{ℕ, _+_, _≤_, _<_}
-use mathlib.Core.Path.{_≡_, refl}
+use Prim.Native.Nat.{ℕ, zero, suc, _+_, _≤_, _<_}
+use mathlib.Core.Path.{_≡_, refl, _∙_}
 use mathlib.Core.Logic.{_≢_}
 use mathlib.Core.Bool.{true}
 use mathlib.Core.List.{List, [], _∷_}
@@ -25,8 +25,9 @@ use Rattle.steps.specs.Steps.{insertMeets, insertCheck, checkStep, insertLaid, 
 use Rattle.steps.specs.Steps.{numberStep, insertLink, linkStep, usable, finishStep, actStep, ends}
 use Rattle.register.specs.Register.{fits, badKey, began, startOf, stepOf}
 use Rattle.sixteen.specs.declared.Call.{Call}
-use Rattle.sixteen.specs.Sixteen.{Left, served}
-use Rattle.reached.specs.Reached.{called}
+use Rattle.sixteen.specs.Sixteen.{Left, served, sessionOf}
+use Rattle.reached.specs.Reached.{underBy, called}
+use Rattle.reached.proofs.History.{at-same, under-other}
 use Rattle.loaded.specs.Calls.{alone, Goes}
 use Rattle.loaded.proofs.Goes.{quiet-call, number-call}
 use Rattle.order.specs.Set.{insert}
@@ -39,6 +40,16 @@ at k v phase = record { op = Op.Insert k v; phase = phase }
 abbrev left : List ℕ → List ℕ → Counters → Session → Answer → Left
 left ns es c s a =
     served ns es (record { register = record { counters = c; sessions = s ∷ replicate 15 idle }; answer = a })
+
+-- all other sessions are idle, before it and after it
+abbrev opAlone : Session → ℕ → Op
+opAlone s who = sessionOf (s ∷ replicate 15 idle) who .op
+
+alone-tells : (asked : Op) (s s′ : Session) (a : Answer) →
+    ((f : ℕ → Op) → f 0 ≡ s .op → underBy a 0 asked f 0 ≡ s′ .op) →
+    (f : ℕ → Op) → ((who : ℕ) → f who ≡ opAlone s who) → (who : ℕ) → underBy a 0 asked f who ≡ opAlone s′ who
+alone-tells asked s s′ a own f e zero = own f (e 0)
+alone-tells asked s s′ a own f e (suc i) = under-other a 0 asked f (suc i) (λ z. omega arith) ∙ e (suc i)
 
 module _ (z : Size) (ns es : List ℕ) (c : Counters) (fit : fits z ns es ≡ true) where
   -- ---- the start
@@ -59,7 +70,9 @@ module _ (z : Size) (ns es : List ℕ) (c : Counters) (fit : fits z ns es ≡ tr
       (alone ns es c (at k v (Phase.Walk 0 (nextAt ns 0)))) (Answer.Started ∷ []) []
   starts k v low high =
       quiet-call z (alone ns es c idle) (Call.Start 0 (Op.Insert k v))
-      (left ns es c (at k v (Phase.Walk 0 (nextAt ns 0))) Answer.Started) (started k v low high) refl
+      (left ns es c (at k v (Phase.Walk 0 (nextAt ns 0))) Answer.Started) (started k v low high)
+      (alone-tells (Op.Insert k v) idle (at k v (Phase.Walk 0 (nextAt ns 0))) Answer.Started
+      (λ f _. at-same f 0 (Op.Insert k v))) refl
 
   -- ---- a step
   module _ (s : Session) (busy : busyOf s ≡ true) (ns′ es′ : List ℕ) (r : Stepped)
@@ -68,17 +81,22 @@ module _ (z : Size) (ns es : List ℕ) (c : Counters) (fit : fits z ns es ≡ tr
     unfolding stepOf
     stepped = rw (fit, busy, acts)
 
-    pub steps-on : r .counters .stamp ≡ c .stamp →
-        Goes z (alone ns es c s) (Call.Step 0 ∷ []) (alone ns′ es′ (r .counters) (r .session)) (r .answer ∷ []) []
-    steps-on same =
-        quiet-call z (alone ns es c s) (Call.Step 0) (left ns′ es′ (r .counters) (r .session) (r .answer)) stepped same
+    -- whoever follows the answers knows what session 0 runs then
+    abbrev pub Followed : Type 0
+    Followed = (f : ℕ → Op) → f 0 ≡ s .op → underBy (r .answer) 0 Op.None f 0 ≡ r .session .op
 
-    pub steps-numbered : (k v : ℕ) → s .op ≡ Op.Insert k v → c .stamp < r .counters .stamp →
+    pub steps-on : Followed → r .counters .stamp ≡ c .stamp →
+        Goes z (alone ns es c s) (Call.Step 0 ∷ []) (alone ns′ es′ (r .counters) (r .session)) (r .answer ∷ []) []
+    steps-on own same =
+        quiet-call z (alone ns es c s) (Call.Step 0) (left ns′ es′ (r .counters) (r .session) (r .answer)) stepped
+        (alone-tells Op.None s (r .session) (r .answer) own) same
+
+    pub steps-numbered : Followed → (k v : ℕ) → s .op ≡ Op.Insert k v → c .stamp < r .counters .stamp →
         Goes z (alone ns es c s) (Call.Step 0 ∷ []) (alone ns′ es′ (r .counters) (r .session)) (r .answer ∷ [])
         (insert k v ∷ [])
-    steps-numbered k v op up =
+    steps-numbered own k v op up =
         number-call z (alone ns es c s) (Call.Step 0) (left ns′ es′ (r .counters) (r .session) (r .answer)) stepped
-        k v op up
+        (alone-tells Op.None s (r .session) (r .answer) own) k v op up
 
 -- ---- each phase
 module _ (z : Size) (ns es : List ℕ) (c : Counters) (k v p : ℕ) where

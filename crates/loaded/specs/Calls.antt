@@ -1,7 +1,7 @@
 -- The calls of session 0 that insert keys in order, each above all before it, and what calls leave.
 -- In order: the calls; their answers; the updates, and the pairs; a listing's keys and values, and the empty listing;
--- the history and the answers of any calls; a register whose session 0 runs alone, and a fresh one; what calls do, in
--- one record.
+-- the history and the answers of any calls; a register whose session 0 runs alone, and a fresh one; a history that
+-- knows what sessions run; what calls do, in one record.
 -- Not here: that a loaded register is what they leave (proofs/). Assumes nothing.
 use Prim.Native.Nat.{ℕ, _+_}
 use mathlib.Core.Path.{_≡_}
@@ -18,7 +18,7 @@ use Rattle.register.specs.Register.{freshNodes, freshEntries, freshCounters}
 use Rattle.sixteen.specs.declared.Call.{Call}
 use Rattle.sixteen.specs.Sixteen.{freshRegister}
 use Rattle.fairness.specs.Calls.{after}
-use Rattle.reached.specs.Reached.{State, go, answer, Past, note}
+use Rattle.reached.specs.Reached.{State, opOf, go, answer, Past, note}
 use Rattle.text.specs.Text.{linesOf}
 use Rattle.listing.specs.Listing.{editionName, stampName, keyName, valueName, countName}
 use Rattle.scanning.specs.Reading.{numbersIn}
@@ -86,9 +86,14 @@ abbrev pub opened : List ℕ → List ℕ → State
 opened ns es =
     record { nodes = freshNodes ns; entries = freshEntries es; register = freshRegister freshCounters }
 
--- ---- what calls do: the state after them, their answers, and the updates that they add to any history
+-- ---- a history that tells of each session the operation that its record names
+abbrev pub Knows : State → Past → Type 0
+Knows σ h = (who : ℕ) → h .under who ≡ opOf σ who
+
+-- what calls do: the state after them, their answers, and the updates that they add to any such history; it stays one
 pub record Goes (z : Size) (σ : State) (cs : List Call) (τ : State) (rs : List Answer) (us : List Update) : Type 0
   where
     pub ends : after (go z) σ cs ≡ τ
     pub answered : answers z σ cs ≡ rs
-    pub numbered : (h : Past) → pastAfter z σ cs h .updates ≡ us ++ h .updates
+    pub numbered : (h : Past) → Knows σ h → pastAfter z σ cs h .updates ≡ us ++ h .updates
+    pub known : (h : Past) → Knows σ h → Knows τ (pastAfter z σ cs h)

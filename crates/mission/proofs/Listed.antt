@@ -33,12 +33,12 @@ use Rattle.loading.specs.declared.Loaded.{Loaded}
 use Rattle.loading.proofs.Trip.{round-trip}
 use Rattle.loaded.specs.Calls.{pairsOf, keysIn, valuesIn}
 use Rattle.loaded.proofs.Loaded.{small-roomy, loaded-set-now}
-use Rattle.reached.specs.Reached.{State, stampOf, opOf, whoOf, answer, Past, Reached}
+use Rattle.reached.specs.Reached.{State, stampOf, whoOf, answer, Past, Reached}
 use Rattle.reached.specs.Answers.{setAt}
 use Rattle.drawing.specs.Drawing.{Drawing}
 use Rattle.drawing.proofs.Ahead.{chain-distinct}
 use Rattle.drawing.proofs.Room.{distinct-length, walk-from-head, given-covered}
-use Rattle.words.proofs.Show.{Shown}
+use Rattle.words.proofs.Show.{Shown, shown-inv}
 use Rattle.words.proofs.Use.{inUse, in-use-covers, in-use-length}
 use Rattle.words.proofs.Demand2.{demand-2, seen}
 use Rattle.mission.specs.Mission.{whole}
@@ -80,10 +80,10 @@ module _ (key val : ℕ → ℕ) (σ : State) (h : Past) (m : Drawing) (S : Show
   members-few : length (members key empty (upTo empty t (m .log))) ≤ length (inUse key val σ h m S)
   members-few =
       let log = upTo empty t (m .log) in
-      let snap = S .inv .hist .snap t (omega arith) (omega (arith, S .stamp)) in
+      let snap = shown-inv S .hist .snap t (omega arith) (omega (arith, S .stamp)) in
       distinct-length (members key empty log) (inUse key val σ h m S)
       (chain-distinct key _ head (members key empty log) (walk-from-head key empty _ log snap))
-      (λ x k. given-covered key val empty m (S .inv) (inUse key val σ h m S) (in-use-covers key val σ h m S) x
+      (λ x k. given-covered key val empty m (shown-inv S) (inUse key val σ h m S) (in-use-covers key val σ h m S) x
       (given-first empty x (t - 0) (m .log) (members-given key empty x log k)))
 
   shown-few : length (setAt h t) ≤ 510
@@ -113,16 +113,16 @@ handed-fine σ h R c t n e =
     let S = seen σ h R in
     let part = within keyOf (d .0) (d .1) (setAt h t) in
     let all : Inside 1 4294967294 (setAt h t) =
-    subst (Inside 1 4294967294) (bounded σ h R t (d .4)) (inside-within 1 4294967294 (setAt h t)) in
+    subst (Inside 1 4294967294) (bounded σ h R t (d .3 .by-now)) (inside-within 1 4294967294 (setAt h t)) in
     record {
-      stamp = omega (arith, d .4, demand-2 .bounds σ h R .1);
+      stamp = omega (arith, d .3 .by-now, demand-2 .bounds σ h R .1);
       few = omega (
         arith,
-        ap length (d .5),
+        ap length (d .3 .keys),
         part-length (d .0) (d .1) (setAt h t),
-        shown-few _ _ σ h (S .0) (S .1) t (d .4),
+        shown-few _ _ σ h (S .0) (S .1) t (d .3 .by-now),
       );
-      inside = subst (Inside 1 4294967294) (sym (d .5))
+      inside = subst (Inside 1 4294967294) (sym (d .3 .keys))
           (part-inside 1 4294967294 (d .0) (d .1) (setAt h t) all);
       rises = handed .rising σ h R (whoOf c);
     }

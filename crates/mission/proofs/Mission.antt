@@ -25,7 +25,8 @@ use Rattle.terms.specs.Terms.{small, soughtOf}
 use Rattle.terms.specs.declared.Op
 use Rattle.terms.specs.declared.Answer.{Answer}
 use Rattle.sixteen.specs.declared.Call.{Call}
-use Rattle.reached.specs.Reached.{State, stampOf, opOf, whoOf, stateIn, go, answer, Past, updateOf, at}
+use Rattle.reached.proofs.History.{at-same}
+use Rattle.reached.specs.Reached.{State, stampOf, whoOf, stateIn, go, answer, Past, updateOf, at}
 use Rattle.reached.specs.Reached.{sinceBy, handedBy, note, InWords, Reached, fresh, on}
 use Rattle.reached.specs.Answers.{setAt, setNow}
 use Rattle.reached.specs.Fair.{AllInWords}
@@ -36,12 +37,12 @@ use Rattle.drawing.specs.Steps.{Out, working, Step, walk-on, walk-arrive, lock-
 use Rattle.drawing.specs.Steps.{check-present, check-absent, check-pass, prepare-full, prepare-insert, prepare-remove}
 use Rattle.drawing.specs.Steps.{number-it, link-it, finish-it, seek-on, seek-present, seek-absent, fix-it, follow-on}
 use Rattle.drawing.specs.Steps.{follow-in, follow-end, hand-out}
-use Rattle.words.proofs.Show.{Agrees, Shown, outWord, Advance, waited, stepped, Advanced}
-use Rattle.words.proofs.Land.{usedOf, no-update, at-same}
+use Rattle.words.proofs.Show.{Agrees, Shown, outWord, Advance, waited, stepped, Advanced, shown-inv}
+use Rattle.words.proofs.Land.{usedOf, no-update}
 use Rattle.words.proofs.Back.{agree-back}
 use Rattle.words.proofs.Starts.{idle-refused}
 use Rattle.words.proofs.Whole.{step-advances, reached-shown}
-use Rattle.words.proofs.Demand2.{demand-2, seen}
+use Rattle.words.proofs.Demand2.{demand-2, seen, range-end}
 use Rattle.mission.specs.Mission.{whole, Moment, stampThen, setThen, begun, begunPast, Ends, list}
 use Rattle.mission.specs.Mission.{HadMoment, HandedAll, Quiet, Unmoved, Added}
 use Rattle.mission.specs.Mission.{OneMoment, OneKey, Handed}
@@ -85,7 +86,7 @@ module _ (key val : ℕ → ℕ) (σ : State) (h : Past) (m : Drawing) (S : Show
       ≡ setOf key val empty (upTo empty t (m .log))
   log-whole t t≤now =
       let log = upTo empty t (m .log) in
-      let snap = S .inv .hist .snap t (omega arith) (omega (arith, S .stamp)) in
+      let snap = shown-inv S .hist .snap t (omega arith) (omega (arith, S .stamp)) in
       sym (set-within key val empty 1 4294967294 log)
       ∙ ap (map (entry key val)) (chain-whole key (next (m .rows) t) 1 4294967294 0 (members key empty log)
       (omega (arith, S .head-key)) (omega (arith, S .tail-key)) (snap .walk))
@@ -104,17 +105,12 @@ pub bounded : (σ : State) (h : Past) → Reached small σ h → (t : ℕ) → t
 bounded σ h R t t≤now = let d = seen σ h R in shown-whole _ _ σ h (d .0) (d .1) t t≤now
 
 -- ---- a whole range's end
-same-range : (a b c d : ℕ) → Op.Op.Range a b ≡ Op.Op.Range c d → (a ≡ c) × (b ≡ d)
-same-range a b c d e = (cc, cc)
-
-whole-end : (σ : State) (h : Past) → Reached small σ h → (c : Call) (t n : ℕ) → opOf σ (whoOf c) ≡ whole
+whole-end : (σ : State) (h : Past) → Reached small σ h → (c : Call) (t n : ℕ) → h .under (whoOf c) ≡ whole
     → answer small σ c ≡ Answer.End t n → HandedAll σ h (whoOf c) t n
 whole-end σ h R c t n op e =
-    let d = demand-2 .end σ h R c t n e in
-    let r = same-range (d .0) (d .1) 1 4294967294 (sym (d .2) ∙ op) in
-    let all : h .handed (whoOf c) ≡ setAt h t = d .5 ∙ ap (λ a. within keyOf a (d .1) (setAt h t)) (r .0)
-    ∙ ap (λ b. within keyOf 1 b (setAt h t)) (r .1) ∙ bounded σ h R t (d .4) in
-    (all, d .6 ∙ ap length all, d .3, d .4)
+    let d = range-end σ h R c 1 4294967294 t n op e in
+    let all : h .handed (whoOf c) ≡ setAt h t = d .keys ∙ bounded σ h R t (d .by-now) in
+    (all, d .count ∙ ap length all, d .since-start, d .by-now)
 
 -- ---- A RUN MEETS EACH STAMP ON ITS WAY: no call makes more than one update count
 update-one : (op : Op.Op) → length (updateOf op) ≤ 1
@@ -129,7 +125,7 @@ OneMore old new = (front : List Update) × (new ≡ front ++ old) × (length fro
 
 note-more : (σ : State) (h : Past) (c : Call) → OneMore (h .updates) (note small σ c h .updates)
 note-more σ h c = cond-cases (OneMore (h .updates)) (ltb (stampOf σ) (stampOf (go small σ c))) _ _
-    (λ _. (updateOf (opOf σ (whoOf c)), refl, update-one (opOf σ (whoOf c)))) (λ _. ([], refl, omega arith))
+    (λ _. (updateOf (h .under (whoOf c)), refl, update-one (h .under (whoOf c)))) (λ _. ([], refl, omega arith))
 
 -- one call's stamp: as before, or one more
 stamp-more : (σ : State) (h : Past) → Reached small σ h → (c : Call) → InWords c
@@ -233,14 +229,10 @@ module _ (σ : State) (h : Past) (q low high : ℕ) (calls : List Call) (t n : �
 
   query-moment : HadMoment σ h q low high calls t
   query-moment =
-      let d = demand-2 .end (run σ₁ calls) (pastOf σ₁ h₁ calls) end-reached (Call.Step q) t n (E .ended) in
-      let r = same-range (d .0) (d .1) low high (sym (d .2) ∙ E .still) in
-      let w = met σ₁ h₁ start-reached calls (E .in-words .1) t (omega (arith, began-by, d .3)) (d .4) in (
-        w .0,
-        w .1,
-        d .5 ∙ ap (λ a. within keyOf a (d .1) (setAt (pastOf σ₁ h₁ calls) t)) (r .0)
-            ∙ ap (λ b. within keyOf low b (setAt (pastOf σ₁ h₁ calls) t)) (r .1) ∙ ap (within keyOf low high) (w .2),
-      )
+      let d = range-end (run σ₁ calls) (pastOf σ₁ h₁ calls) end-reached (Call.Step q) low high t n (E .still)
+      (E .ended) in
+      let w = met σ₁ h₁ start-reached calls (E .in-words .1) t (omega (arith, began-by, d .since-start)) (d .by-now) in
+      (w .0, w .1, d .keys ∙ ap (within keyOf low high) (w .2))
 
 -- ---- ONLY WORKING MAKES AN UPDATE COUNT
 module _ (key val : ℕ → ℕ) (m : Drawing) (t : ℕ) where
@@ -301,7 +293,7 @@ still σ h R c other =
 
 -- ---- one key
 filed-present : (σ : State) (h : Past) → Reached small σ h → (c : Call) (k v : ℕ)
-    → opOf σ (whoOf c) ≡ Op.Op.Insert k v → answer small σ c ≡ Answer.Present
+    → h .under (whoOf c) ≡ Op.Op.Insert k v → answer small σ c ≡ Answer.Present
     → (member keyOf k (setNow h) ≡ true) × Unmoved σ h c
 filed-present σ h R c k v op a = (
   ap (λ o. member keyOf (soughtOf o) (setNow h)) (sym op) ∙ demand-2 .present σ h R c a,
@@ -312,7 +304,7 @@ same-insert : (a b c d : ℕ) → Op.Op.Insert a b ≡ Op.Op.Insert c d → (a �
 same-insert a b c d e = (cc, cc)
 
 filed-inserted : (σ : State) (h : Past) → Reached small σ h → (c : Call) (k v n : ℕ)
-    → opOf σ (whoOf c) ≡ Op.Op.Insert k v → answer small σ c ≡ Answer.Inserted n → Added h k v n
+    → h .under (whoOf c) ≡ Op.Op.Insert k v → answer small σ c ≡ Answer.Inserted n → Added h k v n
 unfolding setAfter
 filed-inserted σ h R c k v n op a =
     let d = demand-2 .inserted σ h R c n a in

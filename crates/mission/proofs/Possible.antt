@@ -49,7 +49,7 @@ unfolding wordOf storeOf lookOf scanOf holdsUp atOf newestOf heldOf layOf finish
     walkStep free lockStep insertMeets insertCheck linkedOf removeCheck checkStep layIn insertLaid removeLaid
     insertRoom
     removeRoom heldAt prepareStep numberStep insertLink removeLink linkStep usable finishStep hasSees newestStep
-    rangeSees followStep handStep fits freshNodes freshEntries freshOf badKey began startOf stepOf
+    rangeSees followStep handStep fits freshNodes freshEntries freshOf badKey began startOf stepOf at
 opened-up = 0
 
 -- ---- calls in words, by computing
@@ -177,7 +177,7 @@ query-ends = record {
 
 -- ---- its list, written and read back
 query-list : query ≡ (20, 7) ∷ []
-unfolding opened-up at
+unfolding opened-up
 query-list = refl
 
 seven-fits : Fit (7 ∷ [])

@@ -19,7 +19,7 @@ use Rattle.listing.specs.Refusals.{Fit}
 use Rattle.listing.specs.declared.Written.{Written}
 use Rattle.loading.specs.Loading.{done, loadOf}
 use Rattle.loading.specs.declared.Loaded.{Loaded}
-use Rattle.reached.specs.Reached.{State, opOf, whoOf, answer, Past, Reached}
+use Rattle.reached.specs.Reached.{State, whoOf, answer, Past, Reached}
 use Rattle.reached.specs.Answers.{setAt, setNow}
 use Rattle.mission.specs.Mission.{whole}
 
@@ -61,6 +61,6 @@ pub record ListedMoment : Type 0 where
       → answer small σ c ≡ Answer.End t n → Fit (valuesOf (h .handed (whoOf c)))
       → (out : List ℕ) → mostRoom ≤ length out → Listed t (h .handed (whoOf c)) out (h .handed (whoOf c))
   -- the whole range's: the set after T updates, which is the register at one moment
-  pub whole-range : (σ : State) (h : Past) → Reached small σ h → (c : Call) (t n : ℕ) → opOf σ (whoOf c) ≡ whole
+  pub whole-range : (σ : State) (h : Past) → Reached small σ h → (c : Call) (t n : ℕ) → h .under (whoOf c) ≡ whole
       → answer small σ c ≡ Answer.End t n → Fit (valuesOf (h .handed (whoOf c)))
       → (out : List ℕ) → mostRoom ≤ length out → Listed t (h .handed (whoOf c)) out (setAt h t)

@@ -14,7 +14,7 @@ use Rattle.terms.specs.Terms.{small}
 use Rattle.terms.specs.declared.Op.{Op}
 use Rattle.terms.specs.declared.Answer.{Answer}
 use Rattle.sixteen.specs.declared.Call.{Call}
-use Rattle.reached.specs.Reached.{State, stampOf, opOf, whoOf, go, answer, Past, note, InWords, Reached}
+use Rattle.reached.specs.Reached.{State, stampOf, whoOf, go, answer, Past, note, InWords, Reached}
 use Rattle.reached.specs.Answers.{setAt, setNow}
 use Rattle.reached.specs.Fair.{AllInWords}
 use Rattle.mission.specs.Runs.{run, pastOf}
@@ -48,7 +48,7 @@ module _ (σ : State) (h : Past) (q low high : ℕ) (calls : List Call) where
     pub reached : Reached small σ h
     pub in-words : InWords (Call.Start q (Op.Range low high)) × AllInWords calls
     pub started : answer small σ (Call.Start q (Op.Range low high)) ≡ Answer.Started
-    pub still : opOf (run begun calls) q ≡ Op.Range low high
+    pub still : pastOf begun begunPast calls .under q ≡ Op.Range low high
     pub ended : answer small (run begun calls) (Call.Step q) ≡ Answer.End t n
 
   -- the list that it was handed
@@ -69,7 +69,7 @@ HandedAll σ h who t n =
 -- ---- A LIST IS THE REGISTER AT ONE MOMENT, while intake goes on
 pub record OneMoment : Type 0 where
   -- a range over all keys ends with T and C: it was handed the set after T updates
-  pub whole-set : (σ : State) (h : Past) → Reached small σ h → (c : Call) (t n : ℕ) → opOf σ (whoOf c) ≡ whole
+  pub whole-set : (σ : State) (h : Past) → Reached small σ h → (c : Call) (t n : ℕ) → h .under (whoOf c) ≡ whole
       → answer small σ c ≡ Answer.End t n → HandedAll σ h (whoOf c) t n
   -- any range's list was the set, within its bounds, at a moment of the query, whatever other sessions did meanwhile
   pub moment : (σ : State) (h : Past) (q low high : ℕ) (calls : List Call) (t n : ℕ)
@@ -91,11 +91,11 @@ Added h k v n = (member keyOf k (setAt h (n - 1)) ≡ false) × (setAt h n ≡ p
 pub record OneKey : Type 0 where
   -- filing a key answers present only when the set has it, and then the updates and the stamp are as before
   pub present : (σ : State) (h : Past) → Reached small σ h → (c : Call) (k v : ℕ)
-      → opOf σ (whoOf c) ≡ Op.Insert k v → answer small σ c ≡ Answer.Present
+      → h .under (whoOf c) ≡ Op.Insert k v → answer small σ c ≡ Answer.Present
       → (member keyOf k (setNow h) ≡ true) × Unmoved σ h c
   -- it answers inserted N only when the set had it not
   pub inserted : (σ : State) (h : Past) → Reached small σ h → (c : Call) (k v n : ℕ)
-      → opOf σ (whoOf c) ≡ Op.Insert k v → answer small σ c ≡ Answer.Inserted n → Added h k v n
+      → h .under (whoOf c) ≡ Op.Insert k v → answer small σ c ≡ Answer.Inserted n → Added h k v n
   -- no set ever has a key twice: keys strictly rise in it
   pub once : (σ : State) (h : Past) → Reached small σ h → (n : ℕ) → Rises keyOf (setAt h n)
   -- only a call that answers working makes an update count

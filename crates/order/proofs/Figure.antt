@@ -14,9 +14,11 @@ use Rattle.order.specs.Set.{Pair, keyOf, put, cut, within, setAfter}
 use Rattle.order.specs.Rows.{Row, look}
 use Rattle.order.specs.History.{head, tail, next, push, numberInsert, numberRemove, ins, rem, Log, Start}
 use Rattle.order.specs.History.{empty, upTo, setOf, members, History, collect, linked, rowsFrom}
+use Rattle.order.specs.Shape.{an-insert, a-remove}
 use Rattle.order.proofs.Rows.{some-same}
-use Rattle.order.proofs.Keeps.{history-begins, history-begins-empty, history-insert, history-remove}
+use Rattle.order.proofs.Keeps.{history-begins, history-begins-empty}
 use Rattle.order.proofs.Reading.{reading, members-length, upTo-length}
+use Rattle.order.proofs.Shape.{numbers-keep}
 
 -- ---- the figure: node 2 has key 20, node 3 key 30, node 4 key 10
 abbrev key : ℕ → ℕ
@@ -69,26 +71,45 @@ pub figure-parts : (collect key val (next rows₄ 3) 20 20 6 head ≡ (20, 7) �
 unfolding push look linked collect
 figure-parts = (refl, refl)
 
--- ---- the premises of the theorems can be met: the figure's history
+-- ---- what may be numbered can be numbered: the figure's history
 pub history₁ : History key empty rows₁ (ins 2 ∷ [])
 unfolding members look linked
-history₁ = history-insert key empty (rowsFrom empty) [] (history-begins-empty key (omega arith)) head tail 2
-    (List·Memᴰ·head refl) refl (omega arith) (omega arith) refl
+history₁ = numbers-keep (history-begins-empty key (omega arith)) (an-insert head tail 2 (record {
+  pred-in = List·Memᴰ·head refl;
+  leads = refl;
+  above-pred = omega arith;
+  below-curr = omega arith;
+  unlinked = refl;
+}))
 
 pub history₂ : History key empty rows₂ (ins 3 ∷ ins 2 ∷ [])
 unfolding members put push look linked
-history₂ = history-insert key empty rows₁ (ins 2 ∷ []) history₁ 2 tail 3
-    (List·Memᴰ·tail (List·Memᴰ·head refl)) refl (omega arith) (omega arith) refl
+history₂ = numbers-keep history₁ (an-insert 2 tail 3 (record {
+  pred-in = List·Memᴰ·tail (List·Memᴰ·head refl);
+  leads = refl;
+  above-pred = omega arith;
+  below-curr = omega arith;
+  unlinked = refl;
+}))
 
 pub history₃ : History key empty rows₃ (ins 4 ∷ ins 3 ∷ ins 2 ∷ [])
 unfolding members put push look linked
-history₃ = history-insert key empty rows₂ (ins 3 ∷ ins 2 ∷ []) history₂ head 2 4
-    (List·Memᴰ·head refl) refl (omega arith) (omega arith) refl
+history₃ = numbers-keep history₂ (an-insert head 2 4 (record {
+  pred-in = List·Memᴰ·head refl;
+  leads = refl;
+  above-pred = omega arith;
+  below-curr = omega arith;
+  unlinked = refl;
+}))
 
 pub history₄ : History key empty rows₄ log
 unfolding members put push look linked
-history₄ = history-remove key empty rows₃ (ins 4 ∷ ins 3 ∷ ins 2 ∷ []) history₃ 4 2 3
-    (List·Memᴰ·tail (List·Memᴰ·head refl)) refl (List·Memᴰ·tail (List·Memᴰ·head refl)) refl
+history₄ = numbers-keep history₃ (a-remove 4 2 3 (record {
+  pred-in = List·Memᴰ·tail (List·Memᴰ·head refl);
+  leads = refl;
+  curr-in = List·Memᴰ·tail (List·Memᴰ·head refl);
+  leads-on = refl;
+}))
 
 -- so the reading theorem speaks of it
 pub figure-agrees : (s : ℕ) → s ≤ 4 → read s ≡ setIn s
@@ -120,8 +141,13 @@ loaded-begins = history-begins key loaded (omega arith, (omega arith, (omega ari
 
 pub loaded-later : History key loaded later (ins 4 ∷ [])
 unfolding members look linked
-loaded-later = history-insert key loaded (rowsFrom loaded) [] loaded-begins head 2 4
-    (List·Memᴰ·head refl) refl (omega arith) (omega arith) refl
+loaded-later = numbers-keep loaded-begins (an-insert head 2 4 (record {
+  pred-in = List·Memᴰ·head refl;
+  leads = refl;
+  above-pred = omega arith;
+  below-curr = omega arith;
+  unlinked = refl;
+}))
 
 pub loaded-reads : (collect key val (next later 300) 1 4294967294 6 head ≡ shown 2)
     × (collect key val (next later 301) 1 4294967294 6 head ≡ shown 3)

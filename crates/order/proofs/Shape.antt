@@ -1,11 +1,11 @@
 -- Whatever a shape reaches has the history: every snapshot up to its stamp shows its set.
--- In order: one step; all that is reached. Assumes nothing.
-use mathlib.Core.Path.{_≡_}
-use mathlib.Core.List.{[]}
+-- In order: what is numbered keeps it; the beginning; one step; all that is reached.
+-- That an insert and a remove keep it (Keeps) is used here alone. Assumes nothing.
 use Prim.Native.Nat.{ℕ}
 use Rattle.order.specs.Rows.{Row}
-use Rattle.order.specs.History.{Log, Start, InOrder, rowsFrom, History}
-use Rattle.order.specs.Shape.{Numbers, nothing, an-insert, a-remove, Shape, ReachedBy, begun, gone-on}
+use Rattle.order.specs.History.{Log, Start, InOrder, History}
+use Rattle.order.specs.Shape.{Numbers, nothing, an-insert, a-remove, Shape, Holds, ReachedBy, at-beginning}
+use Rattle.order.specs.Shape.{gone-on}
 use Rattle.order.proofs.Keeps.{history-begins, history-insert, history-remove}
 
 pub numbers-keep : {key : ℕ → ℕ} {start : Start} {rows rows′ : ℕ → Row} {log log′ : Log}
@@ -17,8 +17,17 @@ numbers-keep {key} {start} {rows} {rows′} {log} {log′} H (an-insert pred cur
 numbers-keep {key} {start} {rows} {rows′} {log} {log′} H (a-remove pred curr succ may) =
     history-remove key start rows log H pred curr succ (may .pred-in) (may .leads) (may .curr-in) (may .leads-on)
 
-pub shape-history : {key : ℕ → ℕ} {start : Start} → InOrder key start → (S : Shape key start) {σ : S .State}
-    → ReachedBy S σ → History key start (S .rows σ) (S .log σ)
-shape-history {key} {start} order S {σ} (begun b) =
-    let d = S .begins σ b in rw (d .0, d .1) (history-begins key start order)
-shape-history order S (gone-on r g) = numbers-keep (shape-history order S r) (S .numbers _ _ g)
+-- ---- the history is carried on here and nowhere else
+module _ {key : ℕ → ℕ} {start : Start} (S : Shape key start) where
+  pub shape-begins : InOrder key start → {σ : S .State} → S .Begins σ → Holds S σ
+  shape-begins order {σ} b =
+      let d = S .begins σ b in
+      let H : History key start (S .rows σ) (S .log σ) = rw (d .0, d .1) (history-begins key start order) in
+      record { hist = H; own = S .own-begins σ b H }
+
+  pub shape-goes : {σ τ : S .State} → Holds S σ → S .Goes σ τ → Holds S τ
+  shape-goes {σ} {τ} K g = record { hist = numbers-keep (K .hist) (S .numbers σ τ g K); own = S .keeps σ τ g K }
+
+  pub shape-history : InOrder key start → {σ : S .State} → ReachedBy S σ → Holds S σ
+  shape-history order (at-beginning b) = shape-begins order b
+  shape-history order (gone-on r g) = shape-goes (shape-history order r) g

@@ -1,13 +1,15 @@
 -- What the history asks of a shape (the list, later the skip list): one record that a shape fills in.
--- In order: when an insert and a remove may be numbered; what a step may number; a shape; what it reaches.
--- A shape's plain links, locks and phases are its own: nothing of them is asked. Assumes nothing.
+-- In order: when an insert and a remove may be numbered; what a step may number; what is known of a state; a shape;
+-- what it reaches.
+-- A shape's plain links, locks and phases are its own: what it keeps of them (`Own`) is for it to say. The history is
+-- no part of that: it follows from what the steps number (proofs/Shape). Assumes nothing.
 use mathlib.Core.Option.{some}
 use mathlib.Core.Path.{_≡_}
 use mathlib.Core.List.{List, [], _∷_, List·Memᴰ}
 use Prim.Native.Nat.{ℕ, suc, _<_}
 use Rattle.order.specs.Rows.{Row}
 use Rattle.order.specs.History.{head, next, numberInsert, numberRemove, Log, ins, rem, Start, stamp, rowsFrom}
-use Rattle.order.specs.History.{members}
+use Rattle.order.specs.History.{members, History}
 
 module _ (key : ℕ → ℕ) (start : Start) (rows : ℕ → Row) (log : Log) where
   -- ---- an insert of `new`: pred is in the set (or the head) and leads to curr, the new key lies between theirs, and
@@ -34,17 +36,31 @@ module _ (key : ℕ → ℕ) (start : Start) (rows : ℕ → Row) (log : Log) wh
     a-remove : (pred curr succ : ℕ) → MayRemove pred curr succ
         → Numbers (numberRemove rows (suc (stamp start log)) pred curr succ) (rem curr ∷ log)
 
--- ---- a shape: states that go on by steps, each with its effective rows and its log
+-- ---- what is known of a state: its history, and what its shape keeps of its own
+pub record Known (key : ℕ → ℕ) (start : Start) (rows : ℕ → Row) (log : Log) (Own : Type 0) : Type 0 where
+  pub hist : History key start rows log
+  pub own : Own
+
+-- ---- a shape: states that go on by steps, each with its effective rows and its log. It has to show of a step that
+-- it numbers no more than it may, and that it keeps its own; the history of the state before is known to it
 pub record Shape (key : ℕ → ℕ) (start : Start) : Type 1 where
   pub State : Type 0
   pub rows : State → ℕ → Row
   pub log : State → Log
+  pub Own : State → Type 0
   pub Begins : State → Type 0
   pub Goes : State → State → Type 0
   pub begins : (σ : State) → Begins σ → (rows σ ≡ rowsFrom start) × (log σ ≡ [])
-  pub numbers : (σ τ : State) → Goes σ τ → Numbers key start (rows σ) (log σ) (rows τ) (log τ)
+  pub own-begins : (σ : State) → Begins σ → History key start (rows σ) (log σ) → Own σ
+  pub numbers : (σ τ : State) → Goes σ τ → Known key start (rows σ) (log σ) (Own σ)
+      → Numbers key start (rows σ) (log σ) (rows τ) (log τ)
+  pub keeps : (σ τ : State) → Goes σ τ → Known key start (rows σ) (log σ) (Own σ) → Own τ
 
--- what it reaches
-pub data ReachedBy {key : ℕ → ℕ} {start : Start} (S : Shape key start) : S .State → Type 0 where
-  begun : {σ : S .State} → S .Begins σ → ReachedBy S σ
-  gone-on : {σ τ : S .State} → ReachedBy S σ → S .Goes σ τ → ReachedBy S τ
+module _ {key : ℕ → ℕ} {start : Start} (S : Shape key start) where
+  abbrev pub Holds : S .State → Type 0
+  Holds σ = Known key start (S .rows σ) (S .log σ) (S .Own σ)
+
+  -- ---- what it reaches
+  pub data ReachedBy : S .State → Type 0 where
+    at-beginning : {σ : S .State} → S .Begins σ → ReachedBy σ
+    gone-on : {σ τ : S .State} → ReachedBy σ → S .Goes σ τ → ReachedBy τ

@@ -214,8 +214,8 @@ module _ (key val : ℕ → ℕ) (start : Start) (m : Drawing) (I : Inv key val 
   wait-owed s x waits =
       let a = read-wait s (m .bundle x) waits in (
         a .0,
-        pends-debt (a .0) x (a .1) (a .2) s (a .3) (m .phase (a .0)) (a .4) (a .5) (I .facts (a .0))
-            (I .owned (a .0) x (a .1) (a .2) (a .3) (a .4)),
+        pends-debt (a .0) x (a .1) (a .2) s (a .3) (m .phase (a .0)) (a .4) (a .5) (I .own .facts (a .0))
+            (I .own .owned (a .0) x (a .1) (a .2) (a .3) (a .4)),
       )
 
   -- ---- a reader's part: it is owed at its snapshot alone, which is not after now

@@ -75,7 +75,7 @@ module _ {State Call : Type 0} (go : State → Call → State) (who : State → 
     | yes h ↦
         let m = D .drawing σ in
         let d = owing-debt (m .phase q) (m .phase i) h in
-        let x = debt-node key val start m (D .inv σ) i (d .0) (m .phase i) (D .inv σ .facts i) (d .1) in
+        let x = debt-node key val start m (D .inv σ) i (d .0) (m .phase i) (D .inv σ .own .facts i) (d .1) in
         let some-given = mem-length (x .0) (D .given σ) (D .covers σ g (x .0) (x .1) (x .2)) in
         omega (arith, owing-three (m .phase q) (m .phase i), credit-some (length (D .given σ)) some-given)
   ]
@@ -109,7 +109,7 @@ module _ {State Call : Type 0} (go : State → Call → State) (who : State → 
   module _ (σ : State) (curr : ℕ) (begins : D .drawing σ .phase q ≡ walking (range low high) head curr) where
     start-stage : stage σ ≡ Reader.walking (key head) 0
     start-stage = stage-in key val start (D .drawing σ) (D .inv σ) q (walking (range low high) head curr) begins
-        (rw begins at (D .inv σ .facts q))
+        (rw begins at (D .inv σ .own .facts q))
 
     start-owes : (i : ℕ) → owes σ i ≡ 0
     unfolding owing

@@ -18,14 +18,14 @@ use Rattle.drawing.specs.Phases.{Op, upd, has, range, keyIn, Phase, idle, walki
 use Rattle.drawing.specs.Phases.{preparing, numbering, linking, finishing, seeking, fixing, following, handing}
 use Rattle.drawing.specs.Drawing.{Owned, final, pending, Drawing}
 use Rattle.drawing.specs.Effects.{givenBy, after, begun}
-use Rattle.drawing.specs.Steps.{Fine, Starts, starts, Reached}
+use Rattle.drawing.specs.Steps.{Fine, Starts, starts}
 use Rattle.drawing.specs.Steps.{prepare-insert}
 use Rattle.drawing.proofs.Inv.{Inv}
-use Rattle.drawing.proofs.Keeps.{start-keeps, step-keeps}
+use Rattle.drawing.proofs.Shape.{Reached, started-inv, stepped-inv, reached-inv}
 use Rattle.drawing.proofs.Goes.{bundle-cases, Goes, goes-or-waits}
 use Rattle.drawing.proofs.Room.{Covers}
 use Rattle.drawing.proofs.Given.{covers-step}
-use Rattle.drawing.proofs.Reached.{reached-inv, reached-listed}
+use Rattle.drawing.proofs.Reached.{reached-listed}
 use Rattle.fairness.specs.Calls.{FairWhile, OpenOrEnded}
 use Rattle.fairness.proofs.Along.{along-all}
 use Rattle.pace.specs.Turns.{Turn, refused, starting, waiting, stepping, Draws, IsOpen, IsBusy}
@@ -75,7 +75,7 @@ module _ (key val : ℕ → ℕ) (start : Start) where
           record {
             drawing = begun start m t (walking op head (m .plain head));
             given = σ .given;
-            inv = start-keeps key val start m (σ .inv) t s;
+            inv = started-inv key val start (σ .inv) t s;
             covers = σ .covers;
           },
           starting t s,
@@ -88,7 +88,7 @@ module _ (key val : ℕ → ℕ) (start : Start) where
       record {
         drawing = after start m t f φ;
         given = givenBy f (σ .given);
-        inv = step-keeps key val start m (σ .inv) t s;
+        inv = stepped-inv key val start (σ .inv) t s;
         covers = covers-step key val start m (σ .inv) (σ .given) (σ .covers) t s;
       },
       stepping t s,

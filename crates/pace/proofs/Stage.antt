@@ -46,7 +46,7 @@ module _ (key val : ℕ → ℕ) (start : Start) where
   stageIn m t (handing low high x s handed) F = Reader.handing (F .2 .ahead)
 
   abbrev pub stageOf : (m : Drawing) → Inv key val start m → ℕ → Stage ℕ
-  stageOf m I t = stageIn m t (m .phase t) (I .facts t)
+  stageOf m I t = stageIn m t (m .phase t) (I .own .facts t)
 
   -- ---- a drawing in which old snapshots read as before has the same stage in the same phase
   module _ (m m′ : Drawing) (past : (s : ℕ) → s ≤ now start m → next (m′ .rows) s ≡ next (m .rows) s) (t : ℕ) where
@@ -74,13 +74,13 @@ module _ (key val : ℕ → ℕ) (start : Start) where
         stageOf m′ I′ t ≡ stageOf m I t
     stage-kept I I′ same = subst
         (λ φ. (F : Facts key val start m t φ) → stageOf m′ I′ t ≡ stageIn m t φ F) same
-        (λ F. stage-same (m′ .phase t) F (I′ .facts t)) (I .facts t)
+        (λ F. stage-same (m′ .phase t) F (I′ .own .facts t)) (I .own .facts t)
 
   -- whatever facts of its phase are taken
   pub stage-in : (m : Drawing) (I : Inv key val start m) (t : ℕ) (φ : Phase) → m .phase t ≡ φ →
       (F : Facts key val start m t φ) → stageOf m I t ≡ stageIn m t φ F
   stage-in m I t φ e F = subst (λ ψ. (G : Facts key val start m t ψ) → stageOf m I t ≡ stageIn m t ψ G) e
-      (λ G. stage-same m m (λ s _. refl) t (m .phase t) G (I .facts t)) F
+      (λ G. stage-same m m (λ s _. refl) t (m .phase t) G (I .own .facts t)) F
 
 -- ---- what a session in this phase owes a reader at snapshot `s`: its own steps to its end, if it carries less
 unfoldable pub debt : ℕ → Phase → ℕ

@@ -98,7 +98,7 @@ module _ (key val : ℕ → ℕ) (start : Start) (zeroth : key head ≡ 0) (q lo
     module _ (t : ℕ) (φ : Phase) (q≢t : q ≢ t) (falls : (s : ℕ) → s ≤ now start m → Falls s (m .phase t) φ) where
       abbrev lowers : (owing (m .phase q) φ ≤ owing (m .phase q) (m .phase t))
           × (0 < owing (m .phase q) (m .phase t) → owing (m .phase q) φ < owing (m .phase q) (m .phase t))
-      lowers = owing-falls key val start m I q (m .phase q) (m .phase t) φ (I .facts q) falls
+      lowers = owing-falls key val start m I q (m .phase q) (m .phase t) φ (I .own .facts q) falls
 
       others-owe : (i : ℕ) → owing (change (m .phase) t φ q) (change (m .phase) t φ i) ≤ owesIn m i
       others-owe i = rw (change-other (m .phase) t φ q q≢t)
@@ -179,7 +179,7 @@ module _ (key val : ℕ → ℕ) (start : Start) (zeroth : key head ≡ 0) (q lo
 
     -- ---- the reader's own steps
     its : (φ : Phase) → m .phase q ≡ φ → Facts key val start m q φ
-    its φ e = rw e at (I .facts q)
+    its φ e = rw e at (I .own .facts q)
 
     -- a phase in which nothing is owed; a phase at the same snapshot
     none-owed : (φ : Phase) → ((χ : Phase) → owing φ χ ≡ 0) →
@@ -207,7 +207,7 @@ module _ (key val : ℕ → ℕ) (start : Start) (zeroth : key head ≡ 0) (q lo
     -- the facts of the phase after it
     its-after : (φ : Phase) → Inv key val start (after start m q stays φ) →
         Facts key val start (after start m q stays φ) q φ
-    its-after φ I′ = rw (change-same (m .phase) q φ) at (I′ .facts q)
+    its-after φ I′ = rw (change-same (m .phase) q φ) at (I′ .own .facts q)
 
     after-in : (φ : Phase) (I′ : Inv key val start (after start m q stays φ)) →
         stageOf key val start (after start m q stays φ) I′ q

@@ -1,19 +1,32 @@
 -- Demand 3: no range query is starved.
--- In order: counted steps; busy sessions, and a query that is open; the nodes given; the demand, and the sharper
--- bound. It speaks of calls, answers, records and counters alone; fair calls are crate fairness's. Assumes nothing.
+-- In order: a register with its history, and a call to it; counted steps; busy sessions, and a query that is open; the
+-- nodes given; the demand, and the sharper bound. It speaks of calls, answers and counters alone: what a session has
+-- under way is what the answers to its calls told (`under`), and no session's record is read. Fair calls are crate
+-- fairness's. Assumes nothing.
 use Prim.Native.Nat.{ℕ, _+_, _-_, _*_, _<_}
 use mathlib.Core.Path.{_≡_}
-use mathlib.Core.Bool.{Bool, true}
+use mathlib.Core.Logic.{_≢_}
 use mathlib.Core.Option.{Option, none, some}
 use mathlib.Core.List.{List, [], _∷_}
 use Rattle.terms.specs.Terms.{small}
 use Rattle.terms.specs.declared.Op.{Op}
 use Rattle.terms.specs.declared.Refusal.{Refusal}
 use Rattle.terms.specs.declared.Answer.{Answer}
-use Rattle.steps.specs.Steps.{busyOf}
 use Rattle.sixteen.specs.declared.Call.{Call}
 use Rattle.fairness.specs.Calls.{after, Along, steps, Fair, FairWhile, Ended, OpenOrEnded}
-use Rattle.reached.specs.Reached.{State, recordOf, opOf, go, answer, InWords, Past, Reached}
+use Rattle.reached.specs.Reached.{State, go, answer, InWords, Past, note, Reached}
+use Rattle.reached.specs.Answers.{RangeIs}
+
+-- ---- a register with the history that its calls gave; a call to it, and the answer
+pub record Lived : Type 0 where
+  pub state : State
+  pub past : Past
+
+abbrev pub goOn : Lived → Call → Lived
+goOn l c = record { state = go small (l .state) c; past = note small (l .state) c (l .past) }
+
+abbrev pub reply : Lived → Call → Answer
+reply l c = answer small (l .state) c
 
 -- ---- counted steps: not refused without effect; full has an effect. A start is no step
 abbrev pub counted : ℕ → Answer → Option ℕ
@@ -36,16 +49,16 @@ counted who (Answer.Refused Refusal.BadTable) = none
 counted who (Answer.Refused Refusal.Damaged) = none
 
 -- whose counted step a call is, if it is one
-abbrev pub whose : State → Call → Option ℕ
-whose σ (Call.Start who op) = none
-whose σ (Call.Step who) = counted who (answer small σ (Call.Step who))
+abbrev pub whose : Lived → Call → Option ℕ
+whose l (Call.Start who op) = none
+whose l (Call.Step who) = counted who (reply l (Call.Step who))
 
--- ---- session i is busy; session q runs the range from low to high
-abbrev pub Busy : State → ℕ → Type 0
-Busy σ i = busyOf (recordOf σ i) ≡ true
+-- ---- session i is busy: it has an operation under way; session q runs the range from low to high
+abbrev pub Busy : Lived → ℕ → Type 0
+Busy l i = l .past .under i ≢ Op.None
 
-abbrev pub Open : (q low high : ℕ) → State → Type 0
-Open q low high σ = opOf σ q ≡ Op.Range low high
+abbrev pub Open : (q low high : ℕ) → Lived → Type 0
+Open q low high l = l .past .under q ≡ Op.Range low high
 
 -- ---- the nodes given to keys: head and tail are none
 abbrev pub given : State → ℕ
@@ -56,37 +69,42 @@ abbrev pub AllInWords : List Call → Type 0
 AllInWords [] = Unit {0}
 AllInWords (c ∷ cs) = InWords c × AllInWords cs
 
--- ---- a range is started at a reached register, and calls follow. In any w counted steps in a row, while the query
--- is open, each session busy throughout them has one. Then fewer than w * (3n + 6) counted steps have passed while it
--- is open, and it ended before that many had; and its last call answers end, of which demand 2 tells the rest
-module _ (σ : State) (q low high w : ℕ) (calls : List Call) where
-  abbrev pub begun : State
-  begun = go small σ (Call.Start q (Op.Range low high))
+-- ---- session q starts a range at a reached register, and calls of any sessions follow
+module _ (l : Lived) (q low high : ℕ) where
+  abbrev pub begun : Lived
+  begun = goOn l (Call.Start q (Op.Range low high))
 
-  abbrev pub FairFor : Type 0
-  FairFor = FairWhile (go small) whose (Open q low high) Busy w begun calls
+  pub record Begins : Type 0 where
+    pub reached : Reached small (l .state) (l .past)
+    pub in-words : InWords (Call.Start q (Op.Range low high))
+    pub started : reply l (Call.Start q (Op.Range low high)) ≡ Answer.Started
 
-  abbrev pub InTime : Type 0
-  InTime = OpenOrEnded (go small) (Open q low high) whose (λ τ. w * (3 * given τ + 6)) begun calls
+  module _ (w : ℕ) (calls : List Call) where
+    -- in any w counted steps in a row, while the query is open, each session busy throughout them has one
+    abbrev pub FairFor : Type 0
+    FairFor = FairWhile goOn whose (Open q low high) Busy w begun calls
 
-  abbrev pub EndsWell : Type 0
-  EndsWell = (d : Ended (go small) (Open q low high) begun calls) → (t n : ℕ)
-      × (answer small (after (go small) begun (d .lived)) (d .last) ≡ Answer.End t n)
+    -- fewer than w * (3n + 6) counted steps have passed while it is open, and it ended before that many had
+    abbrev pub InTime : Type 0
+    InTime = OpenOrEnded goOn (Open q low high) whose (λ τ. w * (3 * given (τ .state) + 6)) begun calls
 
+    -- the call that ends it is its own session's step, and answers end, with demand 2's answer
+    abbrev pub EndsWell : Type 0
+    EndsWell = (d : Ended goOn (Open q low high) begun calls) → (d .last ≡ Call.Step q) × (t n : ℕ)
+        × (reply (after goOn begun (d .lived)) (d .last) ≡ Answer.End t n)
+        × RangeIs (after goOn begun (d .lived) .state) (after goOn begun (d .lived) .past) q low high t n
+
+-- ---- THE DEMAND
 pub record Demand3 : Type 0 where
-  pub in-time : (σ : State) (h : Past) → Reached small σ h → (q low high : ℕ)
-      → InWords (Call.Start q (Op.Range low high))
-      → answer small σ (Call.Start q (Op.Range low high)) ≡ Answer.Started
-      → (w : ℕ) (calls : List Call) → AllInWords calls → FairFor σ q low high w calls
-      → InTime σ q low high w calls × EndsWell σ q low high w calls
+  pub in-time : (l : Lived) (q low high : ℕ) → Begins l q low high
+      → (w : ℕ) (calls : List Call) → AllInWords calls → FairFor l q low high w calls
+      → InTime l q low high w calls × EndsWell l q low high w calls
 
 -- the sharper bound that the proof gives: as long as it is open, fewer than w * (2n + 6)
 pub record Sharper : Type 0 where
-  pub sharp : (σ : State) (h : Past) → Reached small σ h → (q low high : ℕ)
-      → InWords (Call.Start q (Op.Range low high))
-      → answer small σ (Call.Start q (Op.Range low high)) ≡ Answer.Started
+  pub sharp : (l : Lived) (q low high : ℕ) → Begins l q low high
       → (w : ℕ) (calls : List Call) → AllInWords calls
-      → Along (go small) (Open q low high) (begun σ q low high w calls) calls
-      → Fair (go small) whose Busy w (begun σ q low high w calls) calls
-      → steps (go small) whose (begun σ q low high w calls) calls
-      < w * (2 * given (after (go small) (begun σ q low high w calls) calls) + 6)
+      → Along goOn (Open q low high) (begun l q low high) calls
+      → Fair goOn whose Busy w (begun l q low high) calls
+      → steps goOn whose (begun l q low high) calls
+      < w * (2 * given (after goOn (begun l q low high) calls .state) + 6)

@@ -1,11 +1,12 @@
 -- A register reached from a fresh one by starts and steps, and the history that its calls give.
 -- In order: a register's state; a call's effect and answer; the history; what a call adds to it; a call's keys;
 -- reached.
--- The history is computed from the calls and what they answered alone: nothing of an invariant is in it.
+-- The history is computed from the calls, their answers and the stamp alone: no session's record is in it, and nothing
+-- of an invariant.
 -- Not here: a register read from a listing, which is a reached one by theorem. Assumes nothing.
 use Prim.Native.Nat.{ℕ, _≤_}
 use mathlib.Core.Path.{_≡_}
-use mathlib.Core.Bool.{Bool, cond}
+use mathlib.Core.Bool.{cond}
 use mathlib.Core.List.{List, [], _∷_, _++_}
 use lib.Dec.{ltb, eqb}
 use Rattle.order.specs.Set.{Pair, Update, insert, remove}
@@ -13,6 +14,7 @@ use Rattle.terms.specs.Terms.{soughtOf, highOf, tailKey}
 use Rattle.terms.specs.declared.Size.{Size}
 use Rattle.terms.specs.declared.Counters.{Counters}
 use Rattle.terms.specs.declared.Op.{Op}
+use Rattle.terms.specs.declared.Refusal.{Refusal}
 use Rattle.terms.specs.declared.Answer.{Answer}
 use Rattle.steps.specs.declared.Session.{Session}
 use Rattle.register.specs.declared.Opened.{Opened}
@@ -36,10 +38,14 @@ recordOf σ who = sessionOf (σ .register .sessions) who
 abbrev pub opOf : State → ℕ → Op
 opOf σ who = recordOf σ who .op
 
--- ---- a call: whose it is, what it leaves, and its answer
+-- ---- a call: whose it is, the operation that it asks for (a step asks for none), what it leaves, and its answer
 abbrev pub whoOf : Call → ℕ
 whoOf (Call.Start who op) = who
 whoOf (Call.Step who) = who
+
+abbrev pub askedOf : Call → Op
+askedOf (Call.Start who op) = op
+askedOf (Call.Step who) = Op.None
 
 abbrev pub stateIn : Left → State
 stateIn (served ns es r) = record { nodes = ns; entries = es; register = r .register }
@@ -56,15 +62,16 @@ go z σ c = stateIn (called z σ c)
 abbrev pub answer : Size → State → Call → Answer
 answer z σ c = answerIn (called z σ c)
 
--- ---- the history: the updates numbered so far, the newest in front; for each session the stamp when its operation
--- started, and the keys and values that it has been handed since
+-- ---- the history: the updates numbered so far, the newest in front; for each session the operation that it has under
+-- way, the stamp when it started, and the keys and values that it has been handed since
 pub record Past : Type 0 where
   pub updates : List Update
+  pub under : ℕ → Op
   pub since : ℕ → ℕ
   pub handed : ℕ → List Pair
 
 abbrev pub noPast : Past
-noPast = record { updates = []; since = λ who. 0; handed = λ who. [] }
+noPast = record { updates = []; under = λ who. Op.None; since = λ who. 0; handed = λ who. [] }
 
 -- the update that an operation makes
 abbrev pub updateOf : Op → List Update
@@ -74,9 +81,30 @@ updateOf (Op.Remove k) = remove k ∷ []
 updateOf (Op.Has k) = []
 updateOf (Op.Range low high) = []
 
--- ---- what a call adds: an update exactly where the stamp goes up; a start's stamp; a key and value handed out
+-- ---- what a call adds: an update exactly where the stamp goes up; an operation started or ended; a start's stamp; a
+-- key and value handed out
 unfoldable pub at : {A : Type 0} → (ℕ → A) → ℕ → A → ℕ → A
 at f who a other = cond (eqb other who) a (f other)
+
+-- started begins the operation asked for; inserted, removed, present, absent, end and full end it
+abbrev pub underBy : Answer → ℕ → Op → (ℕ → Op) → ℕ → Op
+underBy Answer.Started who op under = at under who op
+underBy Answer.Working who op under = under
+underBy Answer.Waiting who op under = under
+underBy (Answer.Key k v) who op under = under
+underBy (Answer.Inserted n) who op under = at under who Op.None
+underBy (Answer.Removed n) who op under = at under who Op.None
+underBy Answer.Present who op under = at under who Op.None
+underBy Answer.Absent who op under = at under who Op.None
+underBy (Answer.End t n) who op under = at under who Op.None
+underBy (Answer.Refused Refusal.BadSession) who op under = under
+underBy (Answer.Refused Refusal.Busy) who op under = under
+underBy (Answer.Refused Refusal.BadKey) who op under = under
+underBy (Answer.Refused Refusal.BadRange) who op under = under
+underBy (Answer.Refused Refusal.Idle) who op under = under
+underBy (Answer.Refused Refusal.Full) who op under = at under who Op.None
+underBy (Answer.Refused Refusal.BadTable) who op under = under
+underBy (Answer.Refused Refusal.Damaged) who op under = under
 
 abbrev pub sinceBy : Answer → ℕ → ℕ → (ℕ → ℕ) → ℕ → ℕ
 sinceBy Answer.Started who stamp since = at since who stamp
@@ -104,7 +132,8 @@ handedBy (Answer.Refused why) who handed = handed
 
 abbrev pub note : Size → State → Call → Past → Past
 note z σ c h = record {
-  updates = cond (ltb (stampOf σ) (stampOf (go z σ c))) (updateOf (opOf σ (whoOf c)) ++ h .updates) (h .updates);
+  updates = cond (ltb (stampOf σ) (stampOf (go z σ c))) (updateOf (h .under (whoOf c)) ++ h .updates) (h .updates);
+  under = underBy (answer z σ c) (whoOf c) (askedOf c) (h .under);
   since = sinceBy (answer z σ c) (whoOf c) (stampOf σ) (h .since);
   handed = handedBy (answer z σ c) (whoOf c) (h .handed);
 }

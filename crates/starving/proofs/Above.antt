@@ -16,13 +16,13 @@ use Rattle.nodes.specs.Nodes.{keyAt, valueAt}
 use Rattle.terms.specs.Terms.{small, soughtOf, highOf, tailKey}
 use Rattle.terms.specs.declared.Answer.{Answer}
 use Rattle.sixteen.specs.declared.Call.{Call}
-use Rattle.reached.specs.Reached.{State, go, answer, Past, InWords}
-use Rattle.reached.specs.Fair.{whose, Busy, Open, given, AllInWords}
+use Rattle.reached.specs.Reached.{State, InWords}
+use Rattle.reached.specs.Fair.{Lived, goOn, reply, whose, Busy, Open, given, AllInWords}
 use Rattle.drawing.specs.Drawing.{Drawing}
 use Rattle.drawing.proofs.Inv.{Inv}
 use Rattle.drawing.proofs.Room.{Covers}
 use Rattle.fairness.specs.Calls.{after, Along}
-use Rattle.words.proofs.Show.{Agrees}
+use Rattle.words.proofs.Show.{Agrees, shown-inv}
 use Rattle.words.proofs.Land.{usedOf}
 use Rattle.words.proofs.Back.{agree-back}
 use Rattle.pace.specs.Turns
@@ -65,19 +65,19 @@ module _ (key val : ℕ → ℕ) where
         | no n ↦ no (λ a. n (a .keyed, a .valued))
       ]
 
-  abbrev Fits : State → Call → Type 0
-  Fits σ c = InWords c × AgreesIn (go small σ c)
+  abbrev Fits : Lived → Call → Type 0
+  Fits l c = InWords c × AgreesIn (goOn l c .state)
 
-  pub fits : (σ : State) (c : Call) → Dec (Fits σ c)
-  fits σ c = both (dec-words c) (dec-agrees (go small σ c))
+  pub fits : (l : Lived) (c : Call) → Dec (Fits l c)
+  fits l c = both (dec-words c) (dec-agrees (goOn l c .state))
 
   -- ---- states
   pub data Above : Type 0 where
-    live : {σ : State} {h : Past} → Live key val σ h → Above
-    lost : State → {σ : State} {h : Past} → Live key val σ h → Above
+    live : {l : Lived} → Live key val l → Above
+    lost : Lived → {l : Lived} → Live key val l → Above
 
-  abbrev pub below : Above → State
-  below (live {σ} L) = σ
+  abbrev pub below : Above → Lived
+  below (live {l} L) = l
   below (lost τ L) = τ
 
   abbrev pub drawingOf : Above → Drawing
@@ -93,25 +93,25 @@ module _ (key val : ℕ → ℕ) where
   Good (lost τ L) = ⊥
 
   -- ---- a call
-  abbrev moved : {σ : State} {h : Past} → Live key val σ h → (c : Call) → Dec (Fits σ c) → Above
+  abbrev moved : {l : Lived} → Live key val l → (c : Call) → Dec (Fits l c) → Above
   moved L c (yes f) = live (next key val L c (f .0) (f .1) .live)
-  moved {σ} L c (no n) = lost (go small σ c) L
+  moved {l} L c (no n) = lost (goOn l c) L
 
   abbrev pub goes : Above → Call → Above
-  goes (live {σ} L) c = moved L c (fits σ c)
-  goes (lost τ L) c = lost (go small τ c) L
+  goes (live {l} L) c = moved L c (fits l c)
+  goes (lost τ L) c = lost (goOn τ c) L
 
-  moved-below : {σ : State} {h : Past} (L : Live key val σ h) (c : Call) (d : Dec (Fits σ c))
-      → below (moved L c d) ≡ go small σ c
+  moved-below : {l : Lived} (L : Live key val l) (c : Call) (d : Dec (Fits l c))
+      → below (moved L c d) ≡ goOn l c
   moved-below L c (yes f) = refl
   moved-below L c (no n) = refl
 
-  pub goes-below : (a : Above) (c : Call) → below (goes a c) ≡ go small (below a) c
-  goes-below (live {σ} L) c = moved-below L c (fits σ c)
+  pub goes-below : (a : Above) (c : Call) → below (goes a c) ≡ goOn (below a) c
+  goes-below (live {l} L) c = moved-below L c (fits l c)
   goes-below (lost τ L) c = refl
 
   -- ---- while key and value functions agree
-  moved-good : {σ : State} {h : Past} (L : Live key val σ h) (c : Call) (d : Dec (Fits σ c)) → Fits σ c
+  moved-good : {l : Lived} (L : Live key val l) (c : Call) (d : Dec (Fits l c)) → Fits l c
       → Good (moved L c d)
   moved-good L c (yes f) fit = tt
   moved-good L c (no n) fit = n fit
@@ -119,15 +119,15 @@ module _ (key val : ℕ → ℕ) where
   abbrev pub whoseTurn : Above → Call → Option ℕ
   whoseTurn a c = whose (below a) c
 
-  moved-turn : {σ : State} {h : Past} (L : Live key val σ h) (c : Call) (d : Dec (Fits σ c)) → Good (moved L c d)
-      → Turn key val empty (L .drawing) (L .nodes) (whose σ c) (drawingOf (moved L c d)) (nodesIn (moved L c d))
+  moved-turn : {l : Lived} (L : Live key val l) (c : Call) (d : Dec (Fits l c)) → Good (moved L c d)
+      → Turn key val empty (L .drawing) (L .nodes) (whose l c) (drawingOf (moved L c d)) (nodesIn (moved L c d))
   moved-turn L c (yes f) good = next key val L c (f .0) (f .1) .turn
   moved-turn L c (no n) good = absurd good
 
   -- ---- THEY GO ON AS DRAWINGS DO
   pub above-inv : (a : Above) → Inv key val empty (drawingOf a)
-  above-inv (live L) = L .shown .inv
-  above-inv (lost τ L) = L .shown .inv
+  above-inv (live L) = shown-inv (L .shown)
+  above-inv (lost τ L) = shown-inv (L .shown)
 
   pub above-covers : (a : Above) → Good a → Covers (nodesIn a) (drawingOf a)
   above-covers (live L) good = L .listed .covers
@@ -135,7 +135,7 @@ module _ (key val : ℕ → ℕ) where
 
   pub above-turn : (a : Above) (c : Call) → Good a → Good (goes a c)
       → Turn key val empty (drawingOf a) (nodesIn a) (whoseTurn a c) (drawingOf (goes a c)) (nodesIn (goes a c))
-  above-turn (live {σ} L) c good = moved-turn L c (fits σ c)
+  above-turn (live {l} L) c good = moved-turn L c (fits l c)
   above-turn (lost τ L) c good = absurd good
 
   abbrev pub draws : Draws goes whoseTurn Good key val empty
@@ -149,48 +149,48 @@ module _ (key val : ℕ → ℕ) where
 
   -- what is open and busy, and how many nodes are given, in words
   pub above-opens : (q low high : ℕ) (a : Above) → Good a → IsOpen draws q low high a → Open q low high (below a)
-  above-opens q low high (live {σ} {h} L) good = open-in-words key val σ h (L .drawing) (L .shown) q low high
+  above-opens q low high (live {l} L) good = open-in-words key val l (L .drawing) (L .shown) q low high
   above-opens q low high (lost τ L) good = absurd good
 
   pub opens-above : (q low high : ℕ) (a : Above) → Good a → Open q low high (below a) → IsOpen draws q low high a
-  opens-above q low high (live {σ} {h} L) good = open-drawn key val σ h (L .drawing) (L .shown) q low high
+  opens-above q low high (live {l} L) good = open-drawn key val l (L .drawing) (L .shown) q low high
   opens-above q low high (lost τ L) good = absurd good
 
   pub above-busy : (a : Above) → Good a → (i : ℕ) → IsBusy draws a i → Busy (below a) i
-  above-busy (live {σ} {h} L) good = busy-in-words key val σ h (L .drawing) (L .shown)
+  above-busy (live {l} L) good = busy-in-words key val l (L .drawing) (L .shown)
   above-busy (lost τ L) good = absurd good
 
-  pub above-few : (a : Above) → Good a → length (nodesIn a) ≤ given (below a)
+  pub above-few : (a : Above) → Good a → length (nodesIn a) ≤ given (below a .state)
   above-few (live L) good = few-nodes key val L
   above-few (lost τ L) good = absurd good
 
   -- a call that ends a range answers end
-  moved-ends : {σ : State} {h : Past} (L : Live key val σ h) (c : Call) (d : Dec (Fits σ c)) → Good (moved L c d)
+  moved-ends : {l : Lived} (L : Live key val l) (c : Call) (d : Dec (Fits l c)) → Good (moved L c d)
       → (q low high : ℕ) → Turns.Open q low high (L .drawing) → ¬ Turns.Open q low high (drawingOf (moved L c d))
-      → (s n : ℕ) × (answer small σ c ≡ Answer.End s n)
+      → (s n : ℕ) × (reply l c ≡ Answer.End s n)
   moved-ends L c (yes f) good = next key val L c (f .0) (f .1) .ends
   moved-ends L c (no n) good = absurd good
 
   pub above-ends : (a : Above) (c : Call) → Good a → Good (goes a c) → (q low high : ℕ) → IsOpen draws q low high a
-      → ¬ IsOpen draws q low high (goes a c) → (s n : ℕ) × (answer small (below a) c ≡ Answer.End s n)
-  above-ends (live {σ} L) c good = moved-ends L c (fits σ c)
+      → ¬ IsOpen draws q low high (goes a c) → (s n : ℕ) × (reply (below a) c ≡ Answer.End s n)
+  above-ends (live {l} L) c good = moved-ends L c (fits l c)
   above-ends (lost τ L) c good = absurd good
 
   -- ---- calls at whose end they agree: they agree throughout
-  pub agrees-first : (σ : State) (calls : List Call) → AgreesIn (after (go small) σ calls) → AgreesIn σ
-  agrees-first σ [] agrees = agrees
-  agrees-first σ (c ∷ calls) agrees = agree-back small key val σ c (agrees-first (go small σ c) calls agrees)
+  pub agrees-first : (l : Lived) (calls : List Call) → AgreesIn (after goOn l calls .state) → AgreesIn (l .state)
+  agrees-first l [] agrees = agrees
+  agrees-first l (c ∷ calls) agrees = agree-back small key val (l .state) c (agrees-first (goOn l c) calls agrees)
 
-  pub good-on : (a : Above) (c : Call) → Good a → InWords c → AgreesIn (go small (below a) c) → Good (goes a c)
-  good-on (live {σ} L) c good words agrees = moved-good L c (fits σ c) (words, agrees)
+  pub good-on : (a : Above) (c : Call) → Good a → InWords c → AgreesIn (goOn (below a) c .state) → Good (goes a c)
+  good-on (live {l} L) c good words agrees = moved-good L c (fits l c) (words, agrees)
   good-on (lost τ L) c good words agrees = good
 
   pub good-along : (a : Above) (calls : List Call) → Good a → AllInWords calls
-      → AgreesIn (after (go small) (below a) calls) → Along goes Good a calls
+      → AgreesIn (after goOn (below a) calls .state) → Along goes Good a calls
   good-along a [] good words agrees = good
   good-along a (c ∷ calls) good words agrees =
-      let here = good-on a c good (words .0) (agrees-first (go small (below a) c) calls agrees) in (
+      let here = good-on a c good (words .0) (agrees-first (goOn (below a) c) calls agrees) in (
         good,
         good-along (goes a c) calls here (words .1)
-            (subst (λ τ. AgreesIn (after (go small) τ calls)) (sym (goes-below a c)) agrees),
+            (subst (λ τ. AgreesIn (after goOn τ calls .state)) (sym (goes-below a c)) agrees),
       )

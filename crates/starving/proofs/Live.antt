@@ -17,8 +17,8 @@ use Rattle.terms.specs.declared.Op
 use Rattle.terms.specs.declared.Refusal.{Refusal}
 use Rattle.terms.specs.declared.Answer.{Answer}
 use Rattle.sixteen.specs.declared.Call.{Call}
-use Rattle.reached.specs.Reached.{State, answerIn, go, answer, Past, note, InWords, Reached, fresh, on}
-use Rattle.reached.specs.Fair.{counted, whose, given}
+use Rattle.reached.specs.Reached.{State, answerIn, go, Past, note, InWords, Reached, fresh, on}
+use Rattle.reached.specs.Fair.{Lived, goOn, reply, counted, whose, given}
 use Rattle.drawing.specs.Phases.{Op, upd, has, range, Phase, idle, walking, task}
 use Rattle.drawing.specs.Drawing.{Drawing, beginning}
 use Rattle.drawing.specs.Effects.{Effect, givenBy, after}
@@ -31,11 +31,11 @@ use Rattle.drawing.proofs.Change.{change-same, change-other}
 use Rattle.drawing.proofs.Inv.{Inv}
 use Rattle.drawing.proofs.Room.{distinct-length, used-below, on-used}
 use Rattle.drawing.proofs.Given.{Listed, listed-step, listed-start, listed-beginning, nodesOf, nodes-length, nodes-mem}
-use Rattle.words.proofs.Show.{Agrees, opWord, Shown, outWord, waited, stepped, Advanced}
-use Rattle.words.proofs.Land.{usedOf}
+use Rattle.words.proofs.Show.{Agrees, opWord, Shown, outWord, waited, stepped, Advanced, shown-inv}
+use Rattle.words.proofs.Land.{usedOf, Early}
 use Rattle.words.proofs.Back.{agree-back}
 use Rattle.words.proofs.Fresh.{fresh-shows}
-use Rattle.words.proofs.Starts.{Early, Begun, not-begun, has-begun, start-begun, idle-refused, idle-shown}
+use Rattle.words.proofs.Starts.{Begun, not-begun, has-begun, start-begun, idle-refused, idle-shown}
 use Rattle.words.proofs.Whole.{step-advances}
 use Rattle.pace.specs.Turns.{Turn, refused, starting, waiting, stepping, Open}
 use Rattle.pace.proofs.Turns.{none-some}
@@ -94,43 +94,49 @@ module _ (key val : ℕ → ℕ) (m : Drawing) (I : Inv key val empty m) (t : �
   headless (hand-out low high x s handed e) = no-head
 
 -- ---- a register with a drawing that its words show, and the nodes given in it
-pub record Live (key val : ℕ → ℕ) (σ : State) (h : Past) : Type 0 where
+pub record Live (key val : ℕ → ℕ) (l : Lived) : Type 0 where
   pub drawing : Drawing
-  pub shown : Shown small key val σ h drawing
+  pub shown : Shown small key val (l .state) (l .past) drawing
   pub nodes : List ℕ
   pub listed : Listed nodes drawing
   pub no-head : ¬ List·Memᴰ head nodes
 
 module _ (key val : ℕ → ℕ) where
   -- they are no more than the node counter says
-  node-bounds : {σ : State} {h : Past} (L : Live key val σ h) (x : ℕ) → List·Memᴰ x (L .nodes)
-      → (2 ≤ x) × (x < usedOf σ)
-  node-bounds {σ} L x k =
+  node-bounds : {l : Lived} (L : Live key val l) (x : ℕ) → List·Memᴰ x (L .nodes)
+      → (2 ≤ x) × (x < usedOf (l .state))
+  node-bounds {l} L x k =
       let m = L .drawing in
       let S = L .shown in
       let used = L .listed .used x k in
       let x≢head : x ≢ head = λ e. L .no-head (subst (λ y. List·Memᴰ y (L .nodes)) e k) in
-      let x≢tail : x ≢ tail = λ e. used (ap (m .bundle) e ∙ S .inv .ends) in
-      (omega (arith, x≢head, x≢tail), used-below m (usedOf σ) (S .two) (S .rows .blank) x (inl used))
+      let x≢tail : x ≢ tail = λ e. used (ap (m .bundle) e ∙ shown-inv S .own .ends) in
+      (omega (arith, x≢head, x≢tail), used-below m (usedOf (l .state)) (S .two) (S .rows .blank) x (inl used))
 
-  pub few-nodes : {σ : State} {h : Past} (L : Live key val σ h) → length (L .nodes) ≤ given σ
-  few-nodes {σ} L = omega (
+  pub few-nodes : {l : Lived} (L : Live key val l) → length (L .nodes) ≤ given (l .state)
+  few-nodes {l} L = omega (
     arith,
-    nodes-length (given σ),
-    distinct-length (L .nodes) (nodesOf (given σ)) (L .listed .distinct) (λ x k.
-        let b = node-bounds L x k in nodes-mem x (given σ) (b .0) (omega (arith, b .0, b .1))),
+    nodes-length (given (l .state)),
+    distinct-length (L .nodes) (nodesOf (given (l .state))) (L .listed .distinct) (λ x k.
+        let b = node-bounds L x k in nodes-mem x (given (l .state)) (b .0) (omega (arith, b .0, b .1))),
   )
 
   -- ---- the next register, by the call: whose turn it was; and if it ended a range, it answered end
-  pub record Next {σ : State} {h : Past} (L : Live key val σ h) (c : Call) : Type 0 where
-    pub live : Live key val (go small σ c) (note small σ c h)
-    pub turn : Turn key val empty (L .drawing) (L .nodes) (whose σ c) (live .drawing) (live .nodes)
+  pub record Next {l : Lived} (L : Live key val l) (c : Call) : Type 0 where
+    pub live : Live key val (goOn l c)
+    pub turn : Turn key val empty (L .drawing) (L .nodes) (whose l c) (live .drawing) (live .nodes)
     pub ends : (q low high : ℕ) → Open q low high (L .drawing) → ¬ Open q low high (live .drawing)
-        → (s n : ℕ) × (answer small σ c ≡ Answer.End s n)
+        → (s n : ℕ) × (reply l c ≡ Answer.End s n)
 
-  module _ {σ : State} {h : Past} (L : Live key val σ h) where
+  module _ {l : Lived} (L : Live key val l) where
     abbrev m : Drawing
     m = L .drawing
+
+    abbrev σ : State
+    σ = l .state
+
+    abbrev h : Past
+    h = l .past
 
     abbrev Told : Option ℕ → Drawing → List ℕ → Type 0
     Told o m′ nodes′ = Turn key val empty m (L .nodes) o m′ nodes′
@@ -141,7 +147,7 @@ module _ (key val : ℕ → ℕ) where
 
     -- the same drawing
     stays : (c : Call) (m′ : Drawing) → m′ ≡ m → Shown small key val (go small σ c) (note small σ c h) m′
-        → Told (whose σ c) m′ (L .nodes) → Next L c
+        → Told (whose l c) m′ (L .nodes) → Next L c
     stays c m′ e S turn = record {
       live = record {
         drawing = m′;
@@ -158,13 +164,13 @@ module _ (key val : ℕ → ℕ) where
     idle-next : (t : ℕ) → m .phase t ≡ idle → Next L (Call.Step t)
     idle-next t e =
         let d = idle-refused key val σ h m (L .shown) t e in
-        let nobody = ap (λ l. counted t (answerIn l)) (d .2) ∙ early-none t (d .0) (d .1) in
+        let nobody = ap (λ left. counted t (answerIn left)) (d .2) ∙ early-none t (d .0) (d .1) in
         stays (Call.Step t) m refl (idle-shown key val σ h m (L .shown) t e) (turn-is nobody refl refused)
 
     -- a step of a busy one: a range that it ends is its own
     answers-end : (t : ℕ) {o : Out} {f : Effect} {φ : Phase} → Step key val empty t m o f φ
-        → answer small σ (Call.Step t) ≡ outWord o → (q low high : ℕ) → Open q low high m
-        → ¬ Open q low high (after empty m t f φ) → (s n : ℕ) × (answer small σ (Call.Step t) ≡ Answer.End s n)
+        → reply l (Call.Step t) ≡ outWord o → (q low high : ℕ) → Open q low high m
+        → ¬ Open q low high (after empty m t f φ) → (s n : ℕ) × (reply l (Call.Step t) ≡ Answer.End s n)
     answers-end t {o = o} {f = f} {φ = φ} step a q low high is-open shut = elim (ℕ-discrete q t) [
       | no q≢t ↦ absurd (shut (ap task (change-other (m .phase) t φ q q≢t) ∙ is-open))
       | yes q≡t ↦
@@ -181,8 +187,8 @@ module _ (key val : ℕ → ℕ) where
         drawing = m′;
         shown = S;
         nodes = givenBy f (L .nodes);
-        listed = rw e (listed-step key val empty m (L .shown .inv) (L .nodes) (L .listed) t step);
-        no-head = headless key val m (L .shown .inv) t (L .nodes) (L .no-head) step;
+        listed = rw e (listed-step key val empty m (shown-inv (L .shown)) (L .nodes) (L .listed) t step);
+        no-head = headless key val m (shown-inv (L .shown)) t (L .nodes) (L .no-head) step;
       };
       turn = turn-is (ap (counted t) a ∙ out-some t o) e (stepping t step);
       ends = λ q low high is-open shut.
@@ -192,7 +198,7 @@ module _ (key val : ℕ → ℕ) where
     -- a start
     begun-next : (t : ℕ) (op : Op.Op) (m′ : Drawing)
         → Shown small key val (go small σ (Call.Start t op)) (note small σ (Call.Start t op) h) m′
-        → Begun key val t op m m′ (answer small σ (Call.Start t op)) → Next L (Call.Start t op)
+        → Begun key val t op m m′ (reply l (Call.Start t op)) → Next L (Call.Start t op)
     begun-next t op m′ S (not-begun why e a) = stays (Call.Start t op) m′ e S (turn-is refl e refused)
     begun-next t op m′ S (has-begun d word s e) =
         let turn : Told none m′ (L .nodes) = turn-is refl e (starting t s) in record {
@@ -205,7 +211,7 @@ module _ (key val : ℕ → ℕ) where
           };
           turn = turn;
           ends = λ q low high is-open shut. none-some
-              (end-turn key val empty m q low high is-open (L .nodes) turn (L .shown .inv) shut .its-own);
+              (end-turn key val empty m q low high is-open (L .nodes) turn (shown-inv (L .shown)) shut .its-own);
         }
 
     pub next : (c : Call) → InWords c → Agrees key val (usedOf (go small σ c)) (go small σ c .nodes) → Next L c
@@ -216,7 +222,7 @@ module _ (key val : ℕ → ℕ) where
 
   -- ---- EVERY REACHED REGISTER IS ONE, for key and value functions that agree with its words
   pub reached-live : {σ : State} {h : Past} → Reached small σ h → Agrees key val (usedOf σ) (σ .nodes)
-      → Live key val σ h
+      → Live key val (record { state = σ; past = h })
   reached-live (fresh ns es ns′ es′ c e) agrees =
       let S = fresh-shows ns es ns′ es′ c e key val agrees in record {
         drawing = beginning empty;
@@ -235,23 +241,22 @@ module _ (key val : ℕ → ℕ) where
   range-word (has k) low high e = let z : _≡_ {A = ℕ} 0 1 = cc in absurd (omega arith)
   range-word (range a b) low high e = cc
 
-  module _ {σ : State} {h : Past} (L : Live key val σ h) (q low high : ℕ) where
-    abbrev pub Walks : Type 0
-    Walks = (L′ : Live key val (go small σ (Call.Start q (Op.Op.Range low high)))
-        (note small σ (Call.Start q (Op.Op.Range low high)) h))
-        × (curr : ℕ) × (L′ .drawing .phase q ≡ walking (range low high) head curr)
+  module _ {l : Lived} (L : Live key val l) (q low high : ℕ) where
+    abbrev call : Call
+    call = Call.Start q (Op.Op.Range low high)
 
-    pub begins : InWords (Call.Start q (Op.Op.Range low high))
-        → answer small σ (Call.Start q (Op.Op.Range low high)) ≡ Answer.Started → Walks
+    abbrev pub Walks : Type 0
+    Walks = (L′ : Live key val (goOn l call)) × (curr : ℕ)
+        × (L′ .drawing .phase q ≡ walking (range low high) head curr)
+
+    pub begins : InWords call → reply l call ≡ Answer.Started → Walks
     unfolding begun-next
     begins words started =
-        let d = start-begun key val σ h (L .drawing) (L .shown) q (Op.Op.Range low high) words in
+        let d = start-begun key val (l .state) (l .past) (L .drawing) (L .shown) q (Op.Op.Range low high) words in
         walks (d .0) (d .1) (d .2)
       where
-        walks : (m′ : Drawing) → Shown small key val (go small σ (Call.Start q (Op.Op.Range low high)))
-            (note small σ (Call.Start q (Op.Op.Range low high)) h) m′
-            → Begun key val q (Op.Op.Range low high) (L .drawing) m′
-            (answer small σ (Call.Start q (Op.Op.Range low high))) → Walks
+        walks : (m′ : Drawing) → Shown small key val (goOn l call .state) (goOn l call .past) m′
+            → Begun key val q (Op.Op.Range low high) (L .drawing) m′ (reply l call) → Walks
         walks m′ S (not-begun why e a) = started-refused (sym started ∙ a)
         walks m′ S (has-begun d word s e) = (
           begun-next L q (Op.Op.Range low high) m′ S (has-begun d word s e) .live,

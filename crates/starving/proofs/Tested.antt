@@ -1,9 +1,9 @@
 -- Calls to a register that a computed test finds fair, for any window.
--- In order: registers reached by some history, and after calls; calls whose keys are words; a test of each session;
--- fair calls.
+-- In order: calls whose keys are words; a test of each session; fair calls.
 -- Not here: the test of one session (Spaced). Assumes nothing.
 use Prim.Native.Nat.{ℕ, zero, suc, _<_}
 use mathlib.Core.Path.{_≡_, refl, _∙_, ap, subst}
+use mathlib.Core.Logic.{_≢_}
 use mathlib.Core.Bool.{Bool, true, false, cond}
 use mathlib.Core.List.{List, [], _∷_, _++_}
 use native.Mathlib.Decide.{ℕ-discrete}
@@ -11,31 +11,18 @@ use native.Mathlib.Omega.{arith}
 use lib.Dec.{leb}
 use borrow.Author.Tests.{leb-true}
 use Rattle.nodes.specs.Nodes.{keyAt, valueAt}
-use Rattle.terms.specs.Terms.{small, soughtOf, highOf, tailKey}
-use Rattle.steps.specs.Steps.{busyOf}
+use Rattle.terms.specs.Terms.{soughtOf, highOf, tailKey, namesOf}
+use Rattle.terms.specs.declared.Op.{Op}
 use Rattle.sixteen.specs.declared.Call.{Call}
-use Rattle.reached.specs.Reached.{State, recordOf, go, Past, Reached, on}
-use Rattle.reached.specs.Fair.{whose, Busy, AllInWords}
+use Rattle.reached.specs.Fair.{Lived, goOn, whose, Busy, AllInWords}
 use Rattle.fairness.specs.Calls.{after, Fair}
-use Rattle.fairness.proofs.Along.{along-here}
+use Rattle.fairness.proofs.Along.{along-here, along-map}
 use Rattle.words.proofs.Whole.{reached-shown}
+use Rattle.starving.proofs.Reaches.{Reaches, calls-reach, words-front}
 use Rattle.starving.proofs.Words.{busy-drawn}
 use Rattle.starving.proofs.Spaced.{true-false, spaced, spaced-serves}
 
--- ---- reached, by some history; and after calls
-abbrev pub Reaches : State → Type 0
-Reaches σ = (h : Past) × Reached small σ h
-
-pub calls-reach : (σ : State) → Reaches σ → (calls : List Call) → AllInWords calls → Reaches (after (go small) σ calls)
-calls-reach σ r [] words = r
-calls-reach σ r (c ∷ calls) words = calls-reach (go small σ c) (_, on (r .1) c (words .0)) calls (words .1)
-
--- ---- calls whose keys are words
-words-front : (a b : List Call) → AllInWords (a ++ b) → AllInWords a
-words-front [] b u = tt
-words-front (c ∷ a) b u = (u .0, words-front a b (u .1))
-
--- by a test
+-- ---- calls whose keys are words, by a test
 abbrev pub wordly : List Call → Bool
 wordly [] = true
 wordly (Call.Start who op ∷ calls) =
@@ -73,26 +60,33 @@ below-all (suc n) f e i i<n =
       | no i≢n ↦ below-all n f (s .1) i (omega arith)
     ]
 
-abbrev pub busyIn : State → ℕ → Bool
-busyIn σ i = busyOf (recordOf σ i)
+abbrev pub busyIn : Lived → ℕ → Bool
+busyIn l i = namesOf (l .past .under i)
 
-abbrev pub passesTest : (w : ℕ) → State → List Call → Bool
-passesTest w σ calls = allBelow 16 (λ i. spaced (go small) whose busyIn w i 0 σ calls)
+some-named : (op : Op) → op ≢ Op.None → namesOf op ≡ true
+some-named Op.None some-op = absurd (some-op refl)
+some-named (Op.Insert k v) some-op = refl
+some-named (Op.Remove k) some-op = refl
+some-named (Op.Has k) some-op = refl
+some-named (Op.Range low high) some-op = refl
+
+abbrev pub passesTest : (w : ℕ) → Lived → List Call → Bool
+passesTest w l calls = allBelow 16 (λ i. spaced goOn whose busyIn w i 0 l calls)
 
 -- there is no session above 15
-no-other : (σ : State) → Reaches σ → (i : ℕ) → Busy σ i → i < 16
-no-other σ (h, r) i busy =
-    let S = reached-shown r (keyAt (σ .nodes)) (valueAt (σ .nodes))
-    (record { keyed = λ x _. refl; valued = λ x _. refl }) in
-    busy-drawn (keyAt (σ .nodes)) (valueAt (σ .nodes)) σ h (S .0) (S .1) i busy .0
+no-other : (l : Lived) → Reaches l → (i : ℕ) → Busy l i → i < 16
+no-other l r i busy =
+    let ns = l .state .nodes in
+    let S = reached-shown r (keyAt ns) (valueAt ns) (record { keyed = λ x _. refl; valued = λ x _. refl }) in
+    busy-drawn (keyAt ns) (valueAt ns) l (S .0) (S .1) i busy .0
 
-pub tested-fair : (w : ℕ) → 0 < w → (σ : State) → Reaches σ → (calls : List Call) → AllInWords calls
-    → passesTest w σ calls ≡ true → Fair (go small) whose Busy w σ calls
-tested-fair w some-w σ reached calls words passes before row rest whole many i throughout =
-    let τ = after (go small) σ before in
+pub tested-fair : (w : ℕ) → 0 < w → (l : Lived) → Reaches l → (calls : List Call) → AllInWords calls
+    → passesTest w l calls ≡ true → Fair goOn whose Busy w l calls
+tested-fair w some-w l reached calls words passes before row rest whole many i throughout =
+    let τ = after goOn l before in
     let words-before = words-front before (row ++ rest) (subst AllInWords whole words) in
-    let i<16 = no-other τ (calls-reach σ reached before words-before) i
-    (along-here (go small) (λ x. Busy x i) τ row throughout) in
-    spaced-serves (go small) whose busyIn w i some-w σ calls
-    (below-all 16 (λ j. spaced (go small) whose busyIn w j 0 σ calls) passes i i<16) before row rest whole many
-    throughout
+    let i<16 = no-other τ (calls-reach l reached before words-before) i
+    (along-here goOn (λ x. Busy x i) τ row throughout) in
+    spaced-serves goOn whose busyIn w i some-w l calls
+    (below-all 16 (λ j. spaced goOn whose busyIn w j 0 l calls) passes i i<16) before row rest whole many
+    (along-map goOn (λ x. Busy x i) (λ x. busyIn x i ≡ true) (λ x. some-named (x .past .under i)) τ row throughout)

@@ -17,7 +17,7 @@ use Rattle.drawing.specs.Drawing.{Drawing}
 use Rattle.drawing.specs.Effects.{Effect, after}
 use Rattle.drawing.proofs.Change.{change-other}
 use Rattle.drawing.proofs.Inv.{On, Facts}
-use Rattle.words.proofs.Show.{BeingCut, Cuts}
+use Rattle.words.proofs.Show.{BeingCut, Cuts, shown-inv}
 use Rattle.words.proofs.Land.{NoNumber, no-number}
 use Rattle.words.proofs.Steady.{Turn, its-facts}
 
@@ -73,14 +73,15 @@ module _ {key val : ℕ → ℕ} {σ : State} {h : Past} {m : Drawing} {t : ℕ}
   -- it is in the set, so no remove of it has a number
   not-removed : ¬ Removed q (m .log)
   not-removed removed =
-      let snap = current key empty (m .rows) (m .log) (T .shown .inv .hist) in
+      let snap = current key empty (m .rows) (m .log) (shown-inv (T .shown) .hist) in
       let back : m .plain q ≡ head = some-same (F .2 .node node-on (F .3 .2) .1) (snap .gone q removed) in
-      omega (arith, T .shown .inv .links q node-on .0, ap key back, T .shown .head-key)
+      omega (arith, shown-inv (T .shown) .own .links q node-on .0, ap key back, T .shown .head-key)
 
   -- it is locked by this session, so no other has laid its remove
   not-being-cut : ¬ BeingCut m q
   not-being-cut (w, k₂, p₂, z₂, c₂, d) =
-      let G : Facts key val empty m w (numbering (remove k₂) p₂ q z₂ c₂) = rw d at (T .shown .inv .facts w) in
+      let G : Facts key val empty m w (numbering (remove k₂) p₂ q z₂ c₂) =
+      rw d at (shown-inv (T .shown) .own .facts w) in
       let w≡t : w ≡ t = some-same (G .0 .lock-y) (F .1 .lock-y) in
       no-number (preparing (remove k) p q) (remove k₂) p₂ q z₂ c₂ (sym e ∙ ap (m .phase) (sym w≡t) ∙ d) tt
 

@@ -1,18 +1,21 @@
 -- DEMAND 2: each answer of a reached register is the ordered set's, at the step that document 01 names.
--- In order: refusals by their numbers; what the answer to any call says; the demand, field by field.
+-- In order: refusals by their numbers; what the answer to any call says; the demand, field by field;
+-- the end of a range that is known to be under way.
+-- The drawing that the words show has its history through the record of shapes (Show, `shown-inv`).
 -- Not here: the demand's sentences (crate reached). Assumes nothing.
 use Prim.Native.Nat.{ℕ}
-use mathlib.Core.Path.{_≡_, refl, _∙_, ap}
+use mathlib.Core.Path.{_≡_, refl, sym, _∙_, ap}
 use mathlib.Core.List.{List}
 use native.Mathlib.Omega.{arith}
 use Rattle.nodes.specs.Nodes.{keyAt, valueAt}
 use Rattle.terms.specs.Terms
 use Rattle.terms.specs.Terms.{small, refusalNumber, Name, Refuses}
+use Rattle.terms.specs.declared.Op
 use Rattle.terms.specs.declared.Refusal.{Refusal}
 use Rattle.terms.specs.declared.Answer.{Answer}
 use Rattle.sixteen.specs.declared.Call.{Call}
 use Rattle.reached.specs.Reached.{State, whoOf, go, answer, Past, Reached}
-use Rattle.reached.specs.Answers.{Demand2}
+use Rattle.reached.specs.Answers.{RangeIs, Demand2}
 use Rattle.drawing.specs.Drawing.{Drawing}
 use Rattle.words.proofs.Show.{Agrees, Shown}
 use Rattle.words.proofs.Land.{usedOf}
@@ -147,3 +150,16 @@ demand-2 = record {
   bounds = λ σ h R. let d = seen σ h R in
       (d .1 .most, History.stamp-most _ _ σ h (d .0) (d .1), entries-most _ _ σ h (d .0) (d .1));
 }
+
+-- ---- the end of a range that is known to be under way
+same-ends : (σ : State) (h : Past) (who a b low high t n : ℕ) → Op.Op.Range a b ≡ Op.Op.Range low high
+    → RangeIs σ h who a b t n → RangeIs σ h who low high t n
+same-ends σ h who a b low high t n e is =
+    let same-low : a ≡ low = cc in let same-high : b ≡ high = cc in rw (← same-low, ← same-high) is
+
+pub range-end : (σ : State) (h : Past) → Reached small σ h → (c : Call) (low high t n : ℕ)
+    → h .under (whoOf c) ≡ Op.Op.Range low high → answer small σ c ≡ Answer.End t n
+    → RangeIs σ h (whoOf c) low high t n
+range-end σ h R c low high t n op a =
+    let d = demand-2 .end σ h R c t n a in
+    same-ends σ h (whoOf c) (d .0) (d .1) low high t n (sym (d .2) ∙ op) (d .3)

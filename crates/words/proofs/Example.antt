@@ -22,7 +22,7 @@ use Rattle.register.specs.Register.{fits, freshNodes, freshEntries, freshCounte
 use Rattle.register.specs.Register.{stepOf}
 use Rattle.sixteen.specs.Sixteen.{freshRegister}
 use Rattle.sixteen.specs.declared.Call.{Call}
-use Rattle.reached.specs.Reached.{State, opOf, go, answer, Past, noPast, note, Reached, fresh, on}
+use Rattle.reached.specs.Reached.{State, go, answer, Past, noPast, note, Reached, fresh, on}
 use Rattle.reached.specs.Answers.{Nth}
 use Rattle.words.proofs.Demand2.{demand-2}
 
@@ -59,6 +59,6 @@ unfolding freshNodes freshEntries fits badKey began startOf stepOf outOfBounds w
 inserted-one = refl
 
 -- ---- so it is update number 1, made after the start, and its key was absent before it
-pub says : (k v : ℕ) × (before : List Update) × (opOf (after 6) 0 ≡ Op.Insert k v)
+pub says : (k v : ℕ) × (before : List Update) × (past 6 .under 0 ≡ Op.Insert k v)
     × Nth (past 6) 0 1 (insert k v) before × (member keyOf k (setAfter [] before) ≡ false)
 says = demand-2 .inserted (after 6) (past 6) (reached 6) (Call.Step 0) 1 inserted-one

@@ -1,20 +1,21 @@
 -- The words of a fresh register show the beginning of the drawing, with the empty set at stamp 0.
 -- In order: what a fresh register's words are; its two nodes; its one entry; all of it.
 -- Not here: any call. Assumes nothing.
-use Prim.Native.Nat.{ℕ, zero, suc, _+_, _*_, _<_}
+use Prim.Native.Nat.{ℕ, _+_, _*_, _<_}
 use mathlib.Core.Path.{_≡_, refl, sym, _∙_, ap}
 use mathlib.Core.Logic.{_⊎_, inl, inr, _≢_}
 use mathlib.Core.Bool.{Bool, true, false, cond, _&&_}
 use mathlib.Core.List.{List, [], _∷_, List·Memᴰ, List·Memᴰ·not-nil}
 use native.Mathlib.Decide.{ℕ-discrete}
 use native.Mathlib.Omega.{arith}
-use lib.ListN.{length, getD, replicate, length-replicate}
+use lib.ListN.{length, length-replicate}
 use lib.Dec.{eqb}
 use borrow.Author.Tests.{ne-eqb, eqb-true}
 use Rattle.table.specs.Table.{wordOf, clearOf}
 use Rattle.table.proofs.Laws.{word-stored, word-else, store-length}
 use Rattle.order.specs.Rows
 use Rattle.order.specs.History.{head, tail, empty, linked}
+use Rattle.order.specs.Shape.{at-beginning}
 use Rattle.bundle.specs.Bundle.{layOf}
 use Rattle.bundle.specs.Shows.{Shows}
 use Rattle.bundle.proofs.Promise.{lay-length, finish-length, lay-front, finish-front}
@@ -28,9 +29,9 @@ use Rattle.register.specs.declared.Opened.{Opened}
 use Rattle.register.specs.Register.{fits, Fresh, opened, freshNodes, freshEntries, freshCounters, freshOf}
 use Rattle.sixteen.specs.Sixteen.{freshRegister}
 use Rattle.reached.specs.Reached.{noPast}
+use Rattle.reached.proofs.History.{getD-default}
 use Rattle.drawing.specs.Phases.{idle}
 use Rattle.drawing.specs.Drawing.{plainly, final, shown, beginning}
-use Rattle.drawing.proofs.Begin.{begin-empty}
 use Rattle.order.proofs.Tests.{cond-cases, eqb-cases}
 use Rattle.words.proofs.Show.{Agrees, Nodes, Sinks, Rows, Shown}
 
@@ -83,11 +84,6 @@ ready z ns es ns′ es′ c =
     (ready-is z ns es ns′ es′ c) (λ _. not-ready z ns es ns′ es′ c)
 
 -- ---- cleared words
-pub getD-default : {A : Type 0} (n i : ℕ) (a : A) → getD (replicate n a) i a ≡ a
-getD-default zero i a = refl
-getD-default (suc n) zero a = refl
-getD-default (suc n) (suc i) a = getD-default n i a
-
 clear-word : (width : ℕ) (t : List ℕ) (i k : ℕ) → wordOf width (clearOf t) i k ≡ 0
 unfolding wordOf
 clear-word width t i k = getD-default (length t) (i * width + k) 0
@@ -199,7 +195,7 @@ unfolding beginning
 fresh-is ns es nodes entries key val A =
     let low : key head ≡ 0 = sym (A .keyed 0 (omega arith)) ∙ head-word ns nodes in
     let high : key tail ≡ tailKey = sym (A .keyed 1 (omega arith)) ∙ tail-word ns nodes in record {
-      inv = begin-empty key val (omega (arith, low, high));
+      reached = at-beginning refl;
       head-key = low;
       tail-key = high;
       agrees = A;
@@ -221,7 +217,7 @@ fresh-is ns es nodes entries key val A =
         cut = λ x m. absurd (List·Memᴰ·not-nil m);
         count = refl;
       };
-      tells = record { updates = refl; since = λ t. refl; handed = λ t. tt };
+      tells = record { updates = refl; under = λ t. refl; since = λ t. refl; handed = λ t. tt };
     }
 
 pub fresh-shows : (ns es ns′ es′ : List ℕ) (c : Counters) → freshOf small ns es ≡ opened ns′ es′ (Opened.Ready c)

@@ -20,8 +20,8 @@ use Rattle.steps.specs.declared.Phase
 use Rattle.steps.specs.declared.Session.{Session}
 use Rattle.steps.specs.Steps
 use Rattle.sixteen.specs.declared.Call.{Call}
-use Rattle.reached.specs.Reached.{State, stampOf, recordOf, opOf, whoOf, answer, Past}
-use Rattle.reached.specs.Answers.{setAt, setNow, Nth, Fixed, follows, hands}
+use Rattle.reached.specs.Reached.{State, stampOf, recordOf, whoOf, answer, Past}
+use Rattle.reached.specs.Answers.{setAt, setNow, Nth, RangeIs, Fixed, follows, hands}
 use Rattle.drawing.specs.Phases.{Op, upd, has, range, sought, Phase, idle, walking, locking, lockingCurr}
 use Rattle.drawing.specs.Phases.{checking, preparing, numbering, linking, finishing, seeking, fixing, following}
 use Rattle.drawing.specs.Phases.{handing, task}
@@ -30,31 +30,12 @@ use Rattle.drawing.specs.Answers.{Numbered}
 use Rattle.drawing.proofs.Inv.{Facts}
 use Rattle.drawing.proofs.Room.{log-room}
 use Rattle.drawing.proofs.Answers.{handed-first}
-use Rattle.words.proofs.Show.{opWord, Runs, HandedIn, Shown}
+use Rattle.words.proofs.Show.{opWord, taskWord, Runs, HandedIn, Shown, shown-inv}
 use Rattle.words.proofs.Land.{handed-at}
 use Rattle.words.proofs.Use.{inUse, in-use-covers, in-use-length}
 use Rattle.words.proofs.Says.{Says}
 
 -- ---- a session's operation
-run-op : (op op′ : Op) (s : Session) → s .op ≡ opWord op → some op ≡ some op′ → s .op ≡ opWord op′
-run-op op op′ s r e = let d : op ≡ op′ = cc in r ∙ ap opWord d
-
-op-word : (own : ℕ → List ℕ) (φ : Phase) (s : Session) (op : Op) → Runs own φ s → task φ ≡ some op
-    → s .op ≡ opWord op
-op-word own idle s op r e = let z : _≡_ {A = ℕ} 0 1 = cc in absurd (omega arith)
-op-word own (walking o p q) s op r e = run-op o op s (ap (λ a. a .op) r) e
-op-word own (locking u p q) s op r e = run-op (upd u) op s (ap (λ a. a .op) r) e
-op-word own (lockingCurr k p q) s op r e = run-op (upd (remove k)) op s (ap (λ a. a .op) r) e
-op-word own (checking u p q) s op r e = run-op (upd u) op s (ap (λ a. a .op) r) e
-op-word own (preparing u p q) s op r e = run-op (upd u) op s (ap (λ a. a .op) r) e
-op-word own (numbering u p y z c) s op (lo, hi, _, _, r) e = run-op (upd u) op s (ap (λ a. a .op) r) e
-op-word own (linking u p y z c n) s op (lo, hi, _, _, r) e = run-op (upd u) op s (ap (λ a. a .op) r) e
-op-word own (finishing u p y z c n) s op (lo, hi, _, _, r) e = run-op (upd u) op s (ap (λ a. a .op) r) e
-op-word own (seeking k x) s op r e = run-op (has k) op s (ap (λ a. a .op) r) e
-op-word own (fixing low high p) s op r e = run-op (range low high) op s (ap (λ a. a .op) r) e
-op-word own (following low high x t given) s op r e = run-op (range low high) op s (ap (λ a. a .op) r) e
-op-word own (handing low high x t given) s op r e = run-op (range low high) op s (ap (λ a. a .op) r) e
-
 sought-is : (op : Op) → soughtOf (opWord op) ≡ sought op
 sought-is (upd (insert k v)) = refl
 sought-is (upd (remove k)) = refl
@@ -103,8 +84,8 @@ module _ (key val : ℕ → ℕ) (σ : State) (h : Past) (m : Drawing) (S : Show
   updates-count = ap length (S .tells .updates) ∙ length-map (m .log) (said key val)
 
   -- the operation of a session in its task
-  op-is : (t : ℕ) → t < 16 → (op : Op) → task (m .phase t) ≡ some op → opOf σ t ≡ opWord op
-  op-is t low op e = op-word (S .own) (m .phase t) (recordOf σ t) op (S .runs t low) e
+  op-is : (t : ℕ) (op : Op) → task (m .phase t) ≡ some op → h .under t ≡ opWord op
+  op-is t op e = S .tells .under t ∙ ap taskWord e
 
   -- ---- an update with its number, and the updates before it
   abbrev before : ℕ → List Update
@@ -135,7 +116,7 @@ module _ (key val : ℕ → ℕ) (σ : State) (h : Past) (m : Drawing) (S : Show
   handed-is t φ e = handed-at (m .phase t) φ _ _ (sym e) refl (S .tells .handed t)
 
   fact : (t : ℕ) (φ : Phase) → m .phase t ≡ φ → Facts key val empty m t φ
-  fact t φ e = rw e at (S .inv .facts t)
+  fact t φ e = rw e at (shown-inv S .own .facts t)
 
   -- what session t was handed is a first part of the keys within bounds after s updates
   abbrev Part : (t low high s : ℕ) → Type 0
@@ -144,7 +125,8 @@ module _ (key val : ℕ → ℕ) (σ : State) (h : Past) (m : Drawing) (S : Show
   follow-part : (t low high x s : ℕ) (given : List Pair) → m .phase t ≡ following low high x s given
       → Part t low high s
   follow-part t low high x s given e =
-      let f = handed-first key val empty m (S .inv) t low high x s given (fact t (following low high x s given) e) in (
+      let f = handed-first key val empty m (shown-inv S) t low high x s given
+      (fact t (following low high x s given) e) in (
         f .0,
         ap (λ l. l ++ f .0) (handed-is t (following low high x s given) e)
             ∙ same-set low high s (given ++ f .0) (f .1 .right),
@@ -153,15 +135,15 @@ module _ (key val : ℕ → ℕ) (σ : State) (h : Past) (m : Drawing) (S : Show
   hand-part : (t low high x s : ℕ) (given : List Pair) → m .phase t ≡ handing low high x s given → Part t low high s
   hand-part t low high x s given e =
       let one = entry key val x ∷ [] in
-      let f = handed-first key val empty m (S .inv) t low high x s (given ++ one)
+      let f = handed-first key val empty m (shown-inv S) t low high x s (given ++ one)
       (fact t (handing low high x s given) e .2) in (
         one ++ f .0,
         ap (λ l. l ++ (one ++ f .0)) (handed-is t (handing low high x s given) e)
             ∙ sym (append-assoc given one (f .0)) ∙ same-set low high s ((given ++ one) ++ f .0) (f .1 .right),
       )
 
-  module _ (t low high s : ℕ) (op : opOf σ t ≡ Op.Op.Range low high) where
-    range-part : (a b n : ℕ) → opOf σ t ≡ Op.Op.Range a b → n ≡ s → Part t a b n → Part t low high s
+  module _ (t low high s : ℕ) (op : h .under t ≡ Op.Op.Range low high) where
+    range-part : (a b n : ℕ) → h .under t ≡ Op.Op.Range a b → n ≡ s → Part t a b n → Part t low high s
     range-part a b n o same part =
         let d = same-range a b low high (sym o ∙ op) in rw (← (d .0), ← (d .1), ← same) part
 
@@ -179,9 +161,9 @@ module _ (key val : ℕ → ℕ) (σ : State) (h : Past) (m : Drawing) (S : Show
     part-in (seeking j x) e r k = absurd (at-record _ _ s r k)
     part-in (fixing a b p) e r k = absurd (at-record _ _ s r k)
     part-in (following a b x n given) e r k =
-        range-part a b n (ap (λ w. w .op) r) (at-record _ _ s r k) (follow-part t a b x n given e)
+        range-part a b n (op-is t (range a b) (ap task e)) (at-record _ _ s r k) (follow-part t a b x n given e)
     part-in (handing a b x n given) e r k =
-        range-part a b n (ap (λ w. w .op) r) (at-record _ _ s r k) (hand-part t a b x n given e)
+        range-part a b n (op-is t (range a b) (ap task e)) (at-record _ _ s r k) (hand-part t a b x n given e)
 
     pub part : Fixed (recordOf σ t .phase) s → Part t low high s
     part fixed = let k = fixed-snapped (recordOf σ t .phase) s fixed in elim (decLt t 16) [
@@ -196,7 +178,7 @@ module _ (key val : ℕ → ℕ) (σ : State) (h : Past) (m : Drawing) (S : Show
     says-of a e = subst (Says key val σ m (whoOf c)) e says
 
     pub inserted-is : (n : ℕ) → answer small σ c ≡ Answer.Inserted n
-        → (k v : ℕ) × (before : List Update) × (opOf σ (whoOf c) ≡ Op.Op.Insert k v)
+        → (k v : ℕ) × (before : List Update) × (h .under (whoOf c) ≡ Op.Op.Insert k v)
         × Nth h (whoOf c) n (insert k v) before × (member keyOf k (setAfter [] before) ≡ false)
     inserted-is n a =
         let d = says-of (Answer.Inserted n) a in
@@ -206,75 +188,75 @@ module _ (key val : ℕ → ℕ) (σ : State) (h : Past) (m : Drawing) (S : Show
           k,
           v,
           before n,
-          op-is (whoOf c) (d .0) (upd (insert k v)) (d .1 .2),
+          op-is (whoOf c) (upd (insert k v)) (d .1 .2),
           nth-is (whoOf c) (insert k v) n N,
           N .was,
         )
 
     pub removed-is : (n : ℕ) → answer small σ c ≡ Answer.Removed n
-        → (k : ℕ) × (before : List Update) × (opOf σ (whoOf c) ≡ Op.Op.Remove k)
+        → (k : ℕ) × (before : List Update) × (h .under (whoOf c) ≡ Op.Op.Remove k)
         × Nth h (whoOf c) n (remove k) before × (member keyOf k (setAfter [] before) ≡ true)
     removed-is n a =
         let d = says-of (Answer.Removed n) a in
         let k = d .1 .0 in
         let N = d .1 .2 in
-        (k, before n, op-is (whoOf c) (d .0) (upd (remove k)) (d .1 .1), nth-is (whoOf c) (remove k) n N, N .was)
+        (k, before n, op-is (whoOf c) (upd (remove k)) (d .1 .1), nth-is (whoOf c) (remove k) n N, N .was)
 
     -- the key that the operation looks for, in the set now
-    member-now : (b : Bool) (op : Op) → whoOf c < 16 → task (m .phase (whoOf c)) ≡ some op
+    member-now : (b : Bool) (op : Op) → task (m .phase (whoOf c)) ≡ some op
         → member keyOf (sought op) (setOf key val empty (m .log)) ≡ b
-        → member keyOf (soughtOf (opOf σ (whoOf c))) (setNow h) ≡ b
-    member-now b op low e there =
-        ap (λ o. member keyOf (soughtOf o) (setNow h)) (op-is (whoOf c) low op e)
+        → member keyOf (soughtOf (h .under (whoOf c))) (setNow h) ≡ b
+    member-now b op e there =
+        ap (λ o. member keyOf (soughtOf o) (setNow h)) (op-is (whoOf c) op e)
         ∙ ap (λ k. member keyOf k (setNow h)) (sought-is op) ∙ ap (member keyOf (sought op)) set-now-is ∙ there
 
     pub present-is : answer small σ c ≡ Answer.Present
-        → member keyOf (soughtOf (opOf σ (whoOf c))) (setNow h) ≡ true
-    present-is a = let d = says-of Answer.Present a in member-now true (d .1 .0) (d .0) (d .1 .1) (d .1 .2)
+        → member keyOf (soughtOf (h .under (whoOf c))) (setNow h) ≡ true
+    present-is a = let d = says-of Answer.Present a in member-now true (d .1 .0) (d .1 .1) (d .1 .2)
 
     pub absent-is : answer small σ c ≡ Answer.Absent
-        → member keyOf (soughtOf (opOf σ (whoOf c))) (setNow h) ≡ false
-    absent-is a = let d = says-of Answer.Absent a in member-now false (d .1 .0) (d .0) (d .1 .1) (d .1 .2)
+        → member keyOf (soughtOf (h .under (whoOf c))) (setNow h) ≡ false
+    absent-is a = let d = says-of Answer.Absent a in member-now false (d .1 .0) (d .1 .1) (d .1 .2)
 
     -- a session that stands in its snapshot runs a range
-    range-is : (low high : ℕ) → whoOf c < 16 → task (m .phase (whoOf c)) ≡ some (range low high)
-        → opOf σ (whoOf c) ≡ Op.Op.Range low high
-    range-is low high below e = op-is (whoOf c) below (range low high) e
+    range-is : (low high : ℕ) → task (m .phase (whoOf c)) ≡ some (range low high)
+        → h .under (whoOf c) ≡ Op.Op.Range low high
+    range-is low high e = op-is (whoOf c) (range low high) e
 
     pub end-is : (t n : ℕ) → answer small σ c ≡ Answer.End t n
-        → (low high : ℕ) × (opOf σ (whoOf c) ≡ Op.Op.Range low high) × (h .since (whoOf c) ≤ t) × (t ≤ stampOf σ)
-        × (h .handed (whoOf c) ≡ within keyOf low high (setAt h t)) × (n ≡ length (h .handed (whoOf c)))
+        → (low high : ℕ) × (h .under (whoOf c) ≡ Op.Op.Range low high) × RangeIs σ h (whoOf c) low high t n
     end-is t n a = go (says-of (Answer.End t n) a)
       where
-        go : Says key val σ m (whoOf c) (Answer.End t n) → (low high : ℕ) × (opOf σ (whoOf c) ≡ Op.Op.Range low high)
-            × (h .since (whoOf c) ≤ t) × (t ≤ stampOf σ)
-            × (h .handed (whoOf c) ≡ within keyOf low high (setAt h t)) × (n ≡ length (h .handed (whoOf c)))
+        go : Says key val σ m (whoOf c) (Answer.End t n) → (low high : ℕ) × (h .under (whoOf c) ≡ Op.Op.Range low high)
+            × RangeIs σ h (whoOf c) low high t n
         go (below, (given, many, (low, high, x, here, A))) =
             let handed : h .handed (whoOf c) ≡ given = handed-is (whoOf c) (following low high x t given) here in (
               low,
               high,
-              range-is low high below (ap task here),
-              omega (arith, A .late, S .tells .since (whoOf c)),
-              omega (arith, A .in-past, S .stamp),
-              handed ∙ same-set low high t given (A .right),
-              many ∙ ap length (sym handed),
+              range-is low high (ap task here),
+              record {
+                since-start = omega (arith, A .late, S .tells .since (whoOf c));
+                by-now = omega (arith, A .in-past, S .stamp);
+                keys = handed ∙ same-set low high t given (A .right);
+                count = many ∙ ap length (sym handed);
+              },
             )
 
     pub key-is : (k v : ℕ) → answer small σ c ≡ Answer.Key k v
-        → (low high s : ℕ) × (rest : List Pair) × (opOf σ (whoOf c) ≡ Op.Op.Range low high)
+        → (low high s : ℕ) × (rest : List Pair) × (h .under (whoOf c) ≡ Op.Op.Range low high)
         × (h .since (whoOf c) ≤ s) × (s ≤ stampOf σ)
         × (h .handed (whoOf c) ++ ((k, v) ∷ rest) ≡ within keyOf low high (setAt h s))
     key-is k v a = go (says-of (Answer.Key k v) a)
       where
         go : Says key val σ m (whoOf c) (Answer.Key k v) → (low high s : ℕ) × (rest : List Pair)
-            × (opOf σ (whoOf c) ≡ Op.Op.Range low high) × (h .since (whoOf c) ≤ s) × (s ≤ stampOf σ)
+            × (h .under (whoOf c) ≡ Op.Op.Range low high) × (h .since (whoOf c) ≤ s) × (s ≤ stampOf σ)
             × (h .handed (whoOf c) ++ ((k, v) ∷ rest) ≡ within keyOf low high (setAt h s))
         go (below, (low, high, x, s, given, rest, here, A)) = (
           low,
           high,
           s,
           rest,
-          range-is low high below (ap task here),
+          range-is low high (ap task here),
           omega (arith, A .late, S .tells .since (whoOf c)),
           omega (arith, A .in-past, S .stamp),
           ap (λ l. l ++ ((k, v) ∷ rest)) (handed-is (whoOf c) (handing low high x s given) here)
@@ -291,5 +273,5 @@ module _ (key val : ℕ → ℕ) (σ : State) (h : Past) (m : Drawing) (S : Show
     S .stamp,
     S .most,
     in-use-length key val σ h m S,
-    log-room key val empty m (S .inv) (inUse key val σ h m S) (in-use-covers key val σ h m S),
+    log-room key val empty m (shown-inv S) (inUse key val σ h m S) (in-use-covers key val σ h m S),
   )

@@ -12,12 +12,14 @@ use native.Mathlib.Omega.{arith}
 use lib.ListN.{length, set, length-set}
 use lib.Seq.{getD-set-same, getD-set-other, set-getD}
 use lib.Dec.{ltb}
-use borrow.Author.Tests.{lt-ltb, le-ltb, eq-eqb, ne-eqb}
+use borrow.Author.Tests.{lt-ltb, le-ltb, eq-eqb}
 use Rattle.order.specs.Set.{Pair, Update, insert, remove}
 use Rattle.order.specs.History.{Removed, empty, said}
+use Rattle.order.specs.Shape.{gone-on}
 use Rattle.terms.specs.Terms.{small}
 use Rattle.terms.specs.declared.Size.{Size}
 use Rattle.terms.specs.declared.Counters.{Counters}
+use Rattle.terms.specs.declared.Op
 use Rattle.terms.specs.declared.Refusal.{Refusal}
 use Rattle.terms.specs.declared.Answer.{Answer}
 use Rattle.steps.specs.declared.Phase
@@ -28,17 +30,19 @@ use Rattle.steps.specs.Steps.{done, actStep, busyOf, underWay}
 use Rattle.register.specs.Register.{fits, stepOf}
 use Rattle.sixteen.specs.declared.Call.{Call}
 use Rattle.sixteen.specs.Sixteen.{Left, served, with, afterStep, sessionOf}
-use Rattle.reached.specs.Reached.{State, stampOf, recordOf, opOf, whoOf, stateIn, answerIn, called, go, answer, Past}
-use Rattle.reached.specs.Reached.{updateOf, at, sinceBy, handedBy, note}
+use Rattle.reached.specs.Reached.{State, stampOf, recordOf, opOf, whoOf, askedOf, stateIn, answerIn, called, go}
+use Rattle.reached.specs.Reached.{answer, Past, updateOf, underBy, sinceBy, handedBy, note}
+use Rattle.reached.proofs.History.{at-same, at-other, under-other}
 use Rattle.drawing.specs.Phases.{Op, upd, has, range, Phase, idle, walking, locking, lockingCurr, checking, preparing}
-use Rattle.drawing.specs.Phases.{numbering, linking, finishing, seeking, fixing, following, handing}
+use Rattle.drawing.specs.Phases.{numbering, linking, finishing, seeking, fixing, following, handing, task}
 use Rattle.drawing.specs.Drawing.{change, Drawing, now}
 use Rattle.drawing.specs.Effects.{Effect, stays, logBy, after}
 use Rattle.drawing.specs.Steps.{Out, working, present, absent, full, inserted, removed, key-value, ended, Step, Waits}
+use Rattle.drawing.specs.Steps.{stepping}
 use Rattle.drawing.proofs.Change.{change-same, change-other}
-use Rattle.drawing.proofs.Keeps.{step-keeps}
-use Rattle.words.proofs.Show.{Agrees, Nodes, Rows, running, Runs, BeingCut, Cuts, HandedIn, Tells, Shown}
-use Rattle.words.proofs.Show.{outWord, waited, stepped, Advanced}
+use Rattle.drawing.proofs.Tasks.{Next, task-stays}
+use Rattle.words.proofs.Show.{Agrees, Nodes, Rows, taskWord, running, Runs, BeingCut, Cuts, HandedIn, Tells}
+use Rattle.words.proofs.Show.{Shown, outWord, waited, stepped, Advanced}
 
 -- ---- a call told by what it leaves
 abbrev pub usedOf : State → ℕ
@@ -46,7 +50,8 @@ usedOf σ = σ .register .counters .nodes
 
 abbrev pub noteOf : State → Call → Past → Left → Past
 noteOf σ c h l = record {
-  updates = cond (ltb (stampOf σ) (stampOf (stateIn l))) (updateOf (opOf σ (whoOf c)) ++ h .updates) (h .updates);
+  updates = cond (ltb (stampOf σ) (stampOf (stateIn l))) (updateOf (h .under (whoOf c)) ++ h .updates) (h .updates);
+  under = underBy (answerIn l) (whoOf c) (askedOf c) (h .under);
   since = sinceBy (answerIn l) (whoOf c) (stampOf σ) (h .since);
   handed = handedBy (answerIn l) (whoOf c) (h .handed);
 }
@@ -136,10 +141,31 @@ module _ (key val : ℕ → ℕ) (σ : State) (h : Past) (m : Drawing) (S : Show
       (fits-whole small (σ .nodes) (σ .entries) (S .whole-nodes) (S .whole-entries)) t<16
       (busy-record (S .own) φ (recordOf σ t) b (rw e at (S .runs t t<16))) ∙ acts)
 
--- ---- a call that leaves all as it was: it waits or is refused
+-- ---- a call that leaves all as it was: it waits, or is refused by a reason that is neither full nor damaged
+abbrev pub Early : Refusal → Type 0
+Early Refusal.BadSession = Unit {0}
+Early Refusal.Busy = Unit {0}
+Early Refusal.BadKey = Unit {0}
+Early Refusal.BadRange = Unit {0}
+Early Refusal.Idle = Unit {0}
+Early Refusal.Full = ⊥
+Early Refusal.BadTable = Unit {0}
+Early Refusal.Damaged = ⊥
+
 pub data Silent : Answer → Type 0 where
   waiting : Silent Answer.Waiting
-  refused : {why : Refusal} → Silent (Answer.Refused why)
+  refused : (why : Refusal) → Early why → Silent (Answer.Refused why)
+
+early-under : (why : Refusal) → Early why → (who : ℕ) (op : Op.Op) (f : ℕ → Op.Op)
+    → underBy (Answer.Refused why) who op f ≡ f
+early-under Refusal.BadSession e who op f = refl
+early-under Refusal.Busy e who op f = refl
+early-under Refusal.BadKey e who op f = refl
+early-under Refusal.BadRange e who op f = refl
+early-under Refusal.Idle e who op f = refl
+early-under Refusal.Full e who op f = absurd e
+early-under Refusal.BadTable e who op f = refl
+early-under Refusal.Damaged e who op f = absurd e
 
 abbrev pub kept : State → ℕ → Answer → Left
 kept σ t a = served (σ .nodes) (σ .entries) (with (σ .register) (σ .register .counters) t (recordOf σ t) a)
@@ -154,11 +180,14 @@ kept-state σ t a = ap (λ all. record {
 pub no-update : {A : Type 0} (a b : ℕ) (x y : A) → b ≡ a → cond (ltb a b) x y ≡ y
 no-update a b x y same = rw (le-ltb a b (omega arith)) refl
 
+past-is : (h : Past) (us : List Update) (f : ℕ → Op.Op) → us ≡ h .updates → f ≡ h .under
+    → record { updates = us; under = f; since = h .since; handed = h .handed } ≡ h
+past-is h us f e d = rw (e, d) refl
+
 pub kept-past : (σ : State) (c : Call) (h : Past) (a : Answer) → Silent a → noteOf σ c h (kept σ (whoOf c) a) ≡ h
-kept-past σ c h a waiting = ap (λ us. record { updates = us; since = h .since; handed = h .handed })
-    (no-update (stampOf σ) (stampOf σ) _ (h .updates) refl)
-kept-past σ c h a refused = ap (λ us. record { updates = us; since = h .since; handed = h .handed })
-    (no-update (stampOf σ) (stampOf σ) _ (h .updates) refl)
+kept-past σ c h a waiting = past-is h _ _ (no-update (stampOf σ) (stampOf σ) _ (h .updates) refl) refl
+kept-past σ c h a (refused why early) = past-is h _ _ (no-update (stampOf σ) (stampOf σ) _ (h .updates) refl)
+    (early-under why early (whoOf c) (askedOf c) (h .under))
 
 pub unchanged : (z : Size) (key val : ℕ → ℕ) (σ : State) (h : Past) (m : Drawing) (c : Call) (a : Answer)
     → called z σ c ≡ kept σ (whoOf c) a → Silent a → Shown z key val σ h m
@@ -190,13 +219,17 @@ since-out (removed n) t stamp f = refl
 since-out (key-value k v) t stamp f = refl
 since-out (ended s given) t stamp f = refl
 
-pub at-same : {A : Type 0} (f : ℕ → A) (t : ℕ) (a : A) → at f t a t ≡ a
-unfolding at
-at-same f t a = rw (eq-eqb t t refl) refl
-
-pub at-other : {A : Type 0} (f : ℕ → A) (t : ℕ) (a : A) (w : ℕ) → w ≢ t → at f t a w ≡ f w
-unfolding at
-at-other f t a w w≢t = rw (ne-eqb w t w≢t) refl
+-- a step ends its own session's operation where the drawing does
+under-own : (o : Out) (ψ φ : Phase) → Next o ψ φ → (t : ℕ) (op : Op.Op) (f : ℕ → Op.Op)
+    → f t ≡ taskWord (task ψ) → underBy (outWord o) t op f t ≡ taskWord (task φ)
+under-own working ψ φ next t op f e = e ∙ ap taskWord (sym next)
+under-own present ψ φ next t op f e = at-same f t _ ∙ ap (λ x. taskWord (task x)) (sym next)
+under-own absent ψ φ next t op f e = at-same f t _ ∙ ap (λ x. taskWord (task x)) (sym next)
+under-own full ψ φ next t op f e = at-same f t _ ∙ ap (λ x. taskWord (task x)) (sym next)
+under-own (inserted n) ψ φ next t op f e = at-same f t _ ∙ ap (λ x. taskWord (task x)) (sym next)
+under-own (removed n) ψ φ next t op f e = at-same f t _ ∙ ap (λ x. taskWord (task x)) (sym next)
+under-own (key-value k v) ψ φ next t op f e = e ∙ ap taskWord (sym next)
+under-own (ended s given) ψ φ next t op f e = at-same f t _ ∙ ap (λ x. taskWord (task x)) (sym next)
 
 pub handed-other : (o : Out) (t : ℕ) (f : ℕ → List Pair) (w : ℕ) → w ≢ t → handedBy (outWord o) t f w ≡ f w
 handed-other working t f w w≢t = refl
@@ -227,7 +260,7 @@ pub record Landing (key val : ℕ → ℕ) (σ : State) (h : Past) (m : Drawing)
   pub runs : Runs own φ (r .session)
   pub others : (w : ℕ) → w < 16 → w ≢ t → Runs own (m .phase w) (recordOf σ w)
   pub cuts : Cuts (r .counters .nodes) (r .counters .entries) (after empty m t f φ)
-  pub updates : cond (ltb (stampOf σ) (r .counters .stamp)) (updateOf (opOf σ t) ++ h .updates) (h .updates)
+  pub updates : cond (ltb (stampOf σ) (r .counters .stamp)) (updateOf (h .under t) ++ h .updates) (h .updates)
       ≡ map (said key val) (logBy f (m .log))
   pub handed : HandedIn φ (handedBy (r .answer) t (h .handed) t)
 
@@ -253,9 +286,18 @@ module _ (key val : ℕ → ℕ) (σ : State) (h : Past) (m : Drawing) (S : Show
         (getD-set-other (σ .register .sessions) t w (r .session) Steps.idle w≢t) (L .others w w<16 w≢t)
   ]
 
+  under-next : (w : ℕ) → underBy (outWord o) t Op.Op.None (h .under) w ≡ taskWord (task (next .phase w))
+  under-next w = elim (ℕ-discrete w t) [
+    | yes e ↦ rw e (under-own o (m .phase t) φ (task-stays key val empty m t (L .step)) t _ (h .under)
+        (S .tells .under t) ∙ ap (λ x. taskWord (task x)) (sym (change-same (m .phase) t φ)))
+    | no w≢t ↦ under-other (outWord o) t _ (h .under) w w≢t ∙ S .tells .under w
+        ∙ ap (λ x. taskWord (task x)) (sym (change-other (m .phase) t φ w w≢t))
+  ]
+
   tells-after : Tells key val (noteOf σ (Call.Step t) h (leftBy σ t ns es r)) next
   tells-after = record {
     updates = L .updates;
+    under = λ w. ap (λ a. underBy a t Op.Op.None (h .under) w) (L .answers) ∙ under-next w;
     since = λ w. ap (λ a. sinceBy a t (stampOf σ) (h .since) w) (L .answers)
         ∙ ap (λ g. g w) (since-out o t (stampOf σ) (h .since)) ∙ S .tells .since w;
     handed = λ w. elim (ℕ-discrete w t) [
@@ -269,7 +311,7 @@ module _ (key val : ℕ → ℕ) (σ : State) (h : Past) (m : Drawing) (S : Show
   shown-after : Agrees key val (r .counters .nodes) ns
       → Shown small key val (stateIn (leftBy σ t ns es r)) (noteOf σ (Call.Step t) h (leftBy σ t ns es r)) next
   shown-after agrees = record {
-    inv = step-keeps key val empty m (S .inv) t (L .step);
+    reached = gone-on (S .reached) (stepping t (L .step));
     head-key = S .head-key;
     tail-key = S .tail-key;
     agrees = agrees;

@@ -25,7 +25,7 @@ use Rattle.drawing.specs.Effects.{lays, newPlain, newGone, twoEntries, after}
 use Rattle.drawing.specs.Steps.{working, Step}
 use Rattle.drawing.proofs.Change.{change-same, change-other, pair-first, pair-other}
 use Rattle.drawing.proofs.Inv.{Pends}
-use Rattle.words.proofs.Show.{Nodes, Rows, opWord, running, Runs, Cuts, Advanced}
+use Rattle.words.proofs.Show.{Nodes, Rows, opWord, running, Runs, Cuts, Advanced, shown-inv}
 use Rattle.words.proofs.Land.{Acts, Busy, no-update, Landing}
 use Rattle.words.proofs.NodeWords.{redrawn, as-nodes, put-newest}
 use Rattle.words.proofs.RowWords.{bundled, rows-kept, lay-rows}
@@ -134,7 +134,7 @@ module _ {key val : ℕ → ℕ} {σ : State} {h : Past} {m : Drawing} {t : ℕ}
 
   others-own : (w x : ℕ) → Pends (m .phase w) x → ownBoth x ≡ T .shown .own x
   others-own w x pends =
-      let unpended = final-unpended key val m (T .shown .inv) w in
+      let unpended = final-unpended key val m (shown-inv (T .shown)) w in
       let x≢p : x ≢ p = λ e. unpended p r (B .final-p) (subst (Pends (m .phase w)) e pends) in
       let x≢y : x ≢ y = λ e. unpended y r₂ (B .final-y) (subst (Pends (m .phase w)) e pends) in
       pair-other own p y (laid ∷ own p) ((laid + 1) ∷ ownP y) x x≢p x≢y ∙ B .same x x≢y

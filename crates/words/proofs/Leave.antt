@@ -19,7 +19,7 @@ use Rattle.drawing.specs.Effects.{leaves}
 use Rattle.drawing.specs.Steps.{Out, Step}
 use Rattle.drawing.proofs.Inv.{Two, Holds, Grip}
 use Rattle.drawing.proofs.Room.{Names}
-use Rattle.words.proofs.Show.{Nodes, opWord, running, Runs, HandedIn, outWord, Advanced}
+use Rattle.words.proofs.Show.{Nodes, opWord, running, Runs, HandedIn, outWord, Advanced, shown-inv}
 use Rattle.words.proofs.Land.{usedOf, Busy, NoNumber}
 use Rattle.words.proofs.NodeWords.{released-nodes, unlocked-else, unlocked-length}
 use Rattle.words.proofs.Use.{nodes-fit}
@@ -38,7 +38,7 @@ module _ {key val : ℕ → ℕ} {σ : State} {h : Past} {m : Drawing} {t : ℕ}
       → Nodes (usedOf σ) (unlockedFor (σ .nodes) u p y) m′
   left-nodes m′ = released-nodes (usedOf σ) (σ .nodes) m (T .shown .nodes) (nodes-fit key val σ h m (T .shown)) p y
       (its-node T here p named-p) (its-node T here y named-y) u t m′ (grip .lock-p) (grip .lock-y)
-      (λ x l. holds x (rw here at (T .shown .inv .held t x l .0)))
+      (λ x l. holds x (rw here at (shown-inv (T .shown) .own .held t x l .0)))
 
   pub left-newest : (x : ℕ) → newestAt (unlockedFor (σ .nodes) u p y) x ≡ newestAt (σ .nodes) x
   left-newest x = unlocked-else (σ .nodes) p y (removesOf (opWord (upd u))) x 5 (omega arith) (omega arith)

@@ -15,13 +15,13 @@ use Rattle.steps.specs.declared.Phase
 use Rattle.steps.specs.declared.Stepped.{Stepped}
 use Rattle.steps.specs.Steps.{done, works, raised}
 use Rattle.finishing.proofs.Ways
-use Rattle.reached.specs.Reached.{State, stampOf, recordOf, opOf, updateOf, Past}
-use Rattle.drawing.specs.Phases.{logged, upd, Phase, numbering, linking}
+use Rattle.reached.specs.Reached.{State, stampOf, recordOf, updateOf, Past}
+use Rattle.drawing.specs.Phases.{logged, upd, Phase, numbering, linking, task}
 use Rattle.drawing.specs.Drawing.{Drawing, now}
 use Rattle.drawing.specs.Effects.{numbers, after}
 use Rattle.drawing.specs.Steps.{working, number-it}
 use Rattle.drawing.proofs.Inv.{Named}
-use Rattle.words.proofs.Show.{opWord, running, Newest, Cuts, Shown, Advanced}
+use Rattle.words.proofs.Show.{opWord, taskWord, running, Newest, Cuts, Shown, Advanced}
 use Rattle.words.proofs.Land.{usedOf, Acts, Landing, cuts-kept}
 use Rattle.words.proofs.NodeWords.{as-nodes}
 use Rattle.words.proofs.RowWords.{rows-kept}
@@ -66,11 +66,12 @@ module _ {key val : ℕ → ℕ} {σ : State} {h : Past} {m : Drawing} {t : ℕ}
   number-cuts = cuts-kept m t (numbers u p y z) _ _ _ (T .shown .cuts) (λ x r. List·Memᴰ·tail r)
       (λ k p₂ x z₂ c₂ d. List·Memᴰ·head (cut-logged u p y z c k p₂ x z₂ c₂ (sym e ∙ d)))
 
-  number-updates : cond (ltb (stampOf σ) (stampOf σ + 1)) (updateOf (opOf σ t) ++ h .updates) (h .updates)
+  number-updates : cond (ltb (stampOf σ) (stampOf σ + 1)) (updateOf (h .under t) ++ h .updates) (h .updates)
       ≡ map (said key val) (logged u y ∷ m .log)
   number-updates =
       rw (lt-ltb (stampOf σ) (stampOf σ + 1) (omega arith)) refl
-      ∙ ap (λ s. updateOf (s .op) ++ h .updates) is ∙ makes u (h .updates)
+      ∙ ap (λ o. updateOf o ++ h .updates) (T .shown .tells .under t ∙ ap (λ x. taskWord (task x)) e)
+      ∙ makes u (h .updates)
       ∙ ap (λ us. u ∷ us) (T .shown .tells .updates)
       ∙ ap (λ a. a ∷ map (said key val) (m .log)) (sym (said-is key val m u y (its-facts T e .2 .named)))
 

@@ -64,5 +64,5 @@ module _ (key val : ℕ → ℕ) (m : Drawing) (t : ℕ) where
 pub final-unpended : (key val : ℕ → ℕ) (m : Drawing) → Inv key val empty m → (t x : ℕ) (r : Row)
     → m .bundle x ≡ final r → ¬ Pends (m .phase t) x
 final-unpended key val m I t x r is-final n =
-    let (c, g, r₂, pends) = pends-in key val m t (m .phase t) (I .facts t) x n in
+    let (c, g, r₂, pends) = pends-in key val m t (m .phase t) (I .own .facts t) x n in
     final-pending (m .bundle x) t c g r r₂ is-final pends

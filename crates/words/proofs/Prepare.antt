@@ -32,7 +32,7 @@ use Rattle.drawing.specs.Effects.{lays, after}
 use Rattle.drawing.specs.Steps.{full, Pending, prepare-full, prepare-insert, prepare-remove}
 use Rattle.drawing.proofs.Change.{change-same, change-other}
 use Rattle.drawing.proofs.Goes.{bundle-cases, newest-wait}
-use Rattle.words.proofs.Show.{Agrees, opWord, running, Cuts, Shown, Advanced}
+use Rattle.words.proofs.Show.{Agrees, opWord, running, Cuts, Shown, Advanced, shown-inv}
 use Rattle.words.proofs.Land.{usedOf, Acts, Busy, call-acts, cuts-kept, no-number}
 use Rattle.words.proofs.NodeWords.{as-nodes, put-else, new-length, new-other, new-key, new-value}
 use Rattle.words.proofs.NodeWords.{new-newest, new-nodes}
@@ -82,7 +82,8 @@ module _ {key val : ℕ → ℕ} {σ : State} {h : Past} {m : Drawing} {t : ℕ}
       by : (o : Option ℕ) → m .lock (usedOf σ) ≡ o → m .lock (usedOf σ) ≡ none
       by none e = e
       by (some w) e =
-          absurd (omega (arith, at-below key val σ h m (T .shown) (usedOf σ) (T .shown .inv .held w (usedOf σ) e .1)))
+          let there = shown-inv (T .shown) .own .held w (usedOf σ) e .1 in
+          absurd (omega (arith, at-below key val σ h m (T .shown) (usedOf σ) there))
 
   -- ---- the functions agree with what the step left
   agrees-left : {φ : Phase} → m .phase t ≡ φ → Busy φ → (ns es : List ℕ) (r : Stepped) → Acts σ t ns es r

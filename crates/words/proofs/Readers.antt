@@ -26,6 +26,7 @@ use Rattle.steps.specs.Steps
 use Rattle.steps.specs.Steps.{done, arrivedOf, works}
 use Rattle.reading.proofs.Ways
 use Rattle.reached.specs.Reached.{State, recordOf, Past, at, handedBy}
+use Rattle.reached.proofs.History.{at-same}
 use Rattle.drawing.specs.Phases.{Op, upd, has, range, sought, Phase, idle, walking, seeking, fixing, following}
 use Rattle.drawing.specs.Phases.{handing, arrived}
 use Rattle.drawing.specs.Drawing.{shown, Drawing, now}
@@ -35,8 +36,8 @@ use Rattle.drawing.specs.Steps.{seek-present, seek-absent, fix-it, follow-on, f
 use Rattle.drawing.proofs.Inv.{Facts}
 use Rattle.drawing.proofs.Room.{newest-used, follow-used, hand-room}
 use Rattle.drawing.proofs.Goes.{bundle-cases, newest-found, follow-finds}
-use Rattle.words.proofs.Show.{Sinks, opWord, running, Runs, HandedIn, outWord, Shown, Advanced}
-use Rattle.words.proofs.Land.{Busy, NoNumber, at-same, handed-at, quiet}
+use Rattle.words.proofs.Show.{Sinks, opWord, running, Runs, HandedIn, outWord, Shown, Advanced, shown-inv}
+use Rattle.words.proofs.Land.{Busy, NoNumber, handed-at, quiet}
 use Rattle.words.proofs.Use.{used-below, named-below, in-table, in-use-covers, in-use-length, inUse}
 use Rattle.words.proofs.Use.{entries-most}
 use Rattle.words.proofs.Steady.{AgreesAfter, actOf, same, acts-by, waits}
@@ -89,7 +90,7 @@ module _ (key val : ℕ → ℕ) (σ : State) (h : Past) (m : Drawing) (S : Show
   handed-here φ e = handed-at (m .phase t) φ _ _ (sym e) refl (S .tells .handed t)
 
   fact : (φ : Phase) → m .phase t ≡ φ → Facts key val empty m t φ
-  fact φ e = rw e at (S .inv .facts t)
+  fact φ e = rw e at (shown-inv S .own .facts t)
 
   -- ---- the words of a node in use
   module _ (x : ℕ) (below : x < c .nodes) where
@@ -147,7 +148,7 @@ module _ (key val : ℕ → ℕ) (σ : State) (h : Past) (m : Drawing) (S : Show
     seek-below = named-below key val σ h m S t (seeking k x) e x refl
 
     seek-to : q < c .nodes
-    seek-to = used-below key val σ h m S q (newest-used key val empty m (S .inv) t k x q e answer)
+    seek-to = used-below key val σ h m S q (newest-used key val empty m (shown-inv S) t k x q e answer)
 
     seek-is : (s : Session) (o : Out) → same σ t s (outWord o)
         ≡ Steps.hasSees small (σ .nodes) c (Op.Op.Has k) x q
@@ -190,7 +191,7 @@ module _ (key val : ℕ → ℕ) (σ : State) (h : Past) (m : Drawing) (S : Show
 
   pub seek-advances : (k x : ℕ) → m .phase t ≡ seeking k x → Advanced key val σ h m t
   seek-advances k x e = ⊎-elim
-      (λ b. let d = newest-found key val empty m (S .inv) t x (b .0) (fact (seeking k x) e .1) (b .1) in
+      (λ b. let d = newest-found key val empty m (shown-inv S) t x (b .0) (fact (seeking k x) e .1) (b .1) in
       seek-goes k x (d .0) e (d .1)) (seek-waits k x e) (bundle-cases (m .bundle x))
 
   -- ---- Fix
@@ -211,7 +212,7 @@ module _ (key val : ℕ → ℕ) (σ : State) (h : Past) (m : Drawing) (S : Show
 
     follow-to : q < c .nodes
     follow-to = used-below key val σ h m S q
-        (follow-used key val empty m (S .inv) t low high x s q given e answer)
+        (follow-used key val empty m (shown-inv S) t low high x s q given e answer)
 
     abbrev sees : Stepped
     sees = Steps.rangeSees small (σ .nodes) c (Op.Op.Range low high) x s (length given) q
@@ -266,7 +267,7 @@ module _ (key val : ℕ → ℕ) (σ : State) (h : Past) (m : Drawing) (S : Show
       → Advanced key val σ h m t
   follow-advances low high x s given e = ⊎-elim (follow-waits low high x s given e)
       (λ d. follow-goes low high x s (d .0) given e (d .1))
-      (follow-finds key val empty m (S .inv) t low high x s given e)
+      (follow-finds key val empty m (shown-inv S) t low high x s given e)
 
   -- ---- Hand
   module _ (low high x s : ℕ) (given : List Pair) (e : m .phase t ≡ handing low high x s given) where
@@ -276,7 +277,7 @@ module _ (key val : ℕ → ℕ) (σ : State) (h : Past) (m : Drawing) (S : Show
     few : length given < small .keys
     few = omega (
       arith,
-      hand-room key val empty m (S .inv) (inUse key val σ h m S) (in-use-covers key val σ h m S) t low high x s
+      hand-room key val empty m (shown-inv S) (inUse key val σ h m S) (in-use-covers key val σ h m S) t low high x s
           given e,
       in-use-length key val σ h m S,
       S .most,

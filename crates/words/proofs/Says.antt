@@ -41,9 +41,9 @@ use Rattle.drawing.specs.Steps.{seek-on, seek-present, seek-absent, fix-it, fol
 use Rattle.drawing.specs.Steps.{hand-out}
 use Rattle.drawing.specs.Answers.{Right}
 use Rattle.drawing.proofs.Answers.{answers}
-use Rattle.words.proofs.Show.{running, outWord, Advance, waited, stepped, Shown, Advanced}
-use Rattle.words.proofs.Land.{usedOf, Busy, busy-record, fits-whole, step-acts}
-use Rattle.words.proofs.Starts.{Early, Begins, begins, refuses-early, start-says, idle-refused}
+use Rattle.words.proofs.Show.{running, outWord, Advance, waited, stepped, Shown, Advanced, shown-inv}
+use Rattle.words.proofs.Land.{usedOf, Early, Busy, busy-record, fits-whole, step-acts}
+use Rattle.words.proofs.Starts.{Begins, begins, refuses-early, start-says, idle-refused}
 
 -- ---- full is answered at an insert's Prepare alone
 abbrev Other : Out → Type 0
@@ -213,7 +213,7 @@ module _ (key val : ℕ → ℕ) (σ : State) (h : Past) (m : Drawing) (S : Show
       → Says key val σ m t (answer small σ (Call.Step t))
   advance-says m′ low (waited w same a) = subst (Says key val σ m t) (sym a) tt
   advance-says m′ low (stepped o f φ step same a) =
-      subst (Says key val σ m t) (sym a) (out-says key val σ m t o low (answers key val empty m (S .inv) t step)
+      subst (Says key val σ m t) (sym a) (out-says key val σ m t o low (answers key val empty m (shown-inv S) t step)
       (λ e. let d = full-phase key val m t step e in
       full-words (d .0) (d .1) (d .2) (d .3) low (d .4) (a ∙ ap outWord e)))
 

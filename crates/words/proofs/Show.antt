@@ -1,5 +1,6 @@
 -- What it is that the words of a register show a drawing.
--- In order: words of locks and marks; nodes; rows; a session's record; entries used; the history; all of it; one step.
+-- In order: words of locks and marks; nodes; rows; a session's record; entries used; the history; all of it, and the
+-- invariant with it; one step.
 -- `key` and `val` are any functions that agree with the words of the nodes in use. `own x` lists the entry numbers of
 -- the row of node x, newest first. Not here: that steps keep it. Assumes nothing.
 use Prim.Native.Nat.{ℕ, _+_, _*_, _≤_, _<_}
@@ -8,9 +9,12 @@ use mathlib.Core.Logic.{_⊎_, _≢_}
 use mathlib.Core.Bool.{Bool, true, false}
 use mathlib.Core.Option.{Option, none, some}
 use mathlib.Core.List.{List, [], _∷_, map, List·Memᴰ}
+use native.Mathlib.Omega.{arith}
 use lib.ListN.{length}
 use Rattle.order.specs.Set.{Pair, Update, insert, remove}
 use Rattle.order.specs.History.{head, tail, Removed, empty, said}
+use Rattle.order.specs.Shape.{ReachedBy}
+use Rattle.order.proofs.Shape.{shape-history}
 use Rattle.bundle.specs.Shows.{Shows}
 use Rattle.nodes.specs.Nodes.{keyAt, valueAt, nextAt, lockAt, removedAt, newestAt}
 use Rattle.terms.specs.Terms.{small, tailKey}
@@ -24,11 +28,12 @@ use Rattle.steps.specs.Steps
 use Rattle.sixteen.specs.declared.Call.{Call}
 use Rattle.reached.specs.Reached.{State, stampOf, recordOf, go, answer, Past, note}
 use Rattle.drawing.specs.Phases.{Op, upd, has, range, Phase, idle, walking, locking, lockingCurr, checking, preparing}
-use Rattle.drawing.specs.Phases.{numbering, linking, finishing, seeking, fixing, following, handing}
+use Rattle.drawing.specs.Phases.{numbering, linking, finishing, seeking, fixing, following, handing, task}
 use Rattle.drawing.specs.Drawing.{Owned, final, pending, shown, Drawing, now}
 use Rattle.drawing.specs.Effects.{Effect, after}
 use Rattle.drawing.specs.Steps.{Out, working, present, absent, full, inserted, removed, key-value, ended, Step, Waits}
 use Rattle.drawing.proofs.Inv.{Inv}
+use Rattle.drawing.proofs.Shape.{list-shape}
 use Rattle.drawing.proofs.Ahead.{Distinct}
 
 -- ---- words of locks and marks
@@ -68,6 +73,11 @@ opWord (upd (insert k v)) = Op.Op.Insert k v
 opWord (upd (remove k)) = Op.Op.Remove k
 opWord (has k) = Op.Op.Has k
 opWord (range low high) = Op.Op.Range low high
+
+-- the operation that a phase serves, or none
+abbrev pub taskWord : Option Op → Op.Op
+taskWord none = Op.Op.None
+taskWord (some op) = opWord op
 
 abbrev pub running : Op → Phase.Phase → Session
 running op phase = record { op = opWord op; phase = phase }
@@ -126,12 +136,13 @@ HandedIn (handing low high x s given) hs = hs ≡ given
 
 pub record Tells (key val : ℕ → ℕ) (h : Past) (m : Drawing) : Type 0 where
   pub updates : h .updates ≡ map (said key val) (m .log)
+  pub under : (t : ℕ) → h .under t ≡ taskWord (task (m .phase t))
   pub since : (t : ℕ) → h .since t ≡ m .since t
   pub handed : (t : ℕ) → HandedIn (m .phase t) (h .handed t)
 
 -- ---- all of it
 pub record Shown (z : Size) (key val : ℕ → ℕ) (σ : State) (h : Past) (m : Drawing) : Type 0 where
-  pub inv : Inv key val empty m
+  pub reached : ReachedBy (list-shape key val empty) m
   pub head-key : key head ≡ 0
   pub tail-key : key tail ≡ tailKey
   pub agrees : Agrees key val (σ .register .counters .nodes) (σ .nodes)
@@ -149,6 +160,12 @@ pub record Shown (z : Size) (key val : ℕ → ℕ) (σ : State) (h : Past) (m :
   pub others : (t : ℕ) → 16 ≤ t → m .phase t ≡ idle
   pub cuts : Cuts (σ .register .counters .nodes) (σ .register .counters .entries) m
   pub tells : Tells key val h m
+
+-- the list's shape reaches the drawing, so it has the invariant, with the history
+pub shown-inv : {z : Size} {key val : ℕ → ℕ} {σ : State} {h : Past} {m : Drawing} → Shown z key val σ h m
+    → Inv key val empty m
+shown-inv {key = key} {val} S =
+    shape-history (list-shape key val empty) (omega (arith, S .head-key, S .tail-key), tt) (S .reached)
 
 -- ---- a step of session t in words and in the drawing: it waits in both, or it steps in both with the same answer
 abbrev pub outWord : Out → Answer

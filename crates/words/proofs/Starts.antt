@@ -15,6 +15,7 @@ use lib.Dec.{eqb}
 use borrow.Author.Tests.{lt-ltb, le-ltb, eqb-false}
 use Rattle.order.specs.Set.{insert, remove}
 use Rattle.order.specs.History.{head, tail, empty}
+use Rattle.order.specs.Shape.{gone-on}
 use Rattle.order.proofs.Tests.{cond-cases, ltb-cases, eqb-cases}
 use Rattle.nodes.specs.Nodes.{nextAt}
 use Rattle.terms.specs.Terms.{small, soughtOf, highOf, tailKey, outOfBounds}
@@ -31,28 +32,18 @@ use Rattle.register.specs.Register.{fits, keeps, badKey, began, startOf, stepOf
 use Rattle.sixteen.specs.declared.Call.{Call}
 use Rattle.sixteen.specs.Sixteen.{Left, served, with, afterStep, sessionOf}
 use Rattle.reached.specs.Reached.{State, stampOf, recordOf, stateIn, called, go, answer, Past, note, at, InWords}
-use Rattle.drawing.specs.Phases.{Op, upd, has, range, Phase, idle, walking}
+use Rattle.reached.proofs.History.{at-same, at-other}
+use Rattle.drawing.specs.Phases.{Op, upd, has, range, Phase, idle, walking, task}
 use Rattle.drawing.specs.Drawing.{change, Drawing, now}
 use Rattle.drawing.specs.Effects.{stays, begun}
-use Rattle.drawing.specs.Steps.{Fine, Starts, starts}
+use Rattle.drawing.specs.Steps.{Fine, Starts, starts, starting}
 use Rattle.drawing.proofs.Change.{change-same, change-other}
-use Rattle.drawing.proofs.Keeps.{start-keeps}
-use Rattle.words.proofs.Show.{opWord, running, Runs, Cuts, HandedIn, Shown}
-use Rattle.words.proofs.Land.{noteOf, Busy, busy-record, fits-whole, refused, kept, kept-state}
-use Rattle.words.proofs.Land.{no-update, kept-past, unchanged, at-same, at-other, runs-at, handed-at}
+use Rattle.words.proofs.Show.{opWord, taskWord, running, Runs, Cuts, HandedIn, Shown}
+use Rattle.words.proofs.Land.{noteOf, Busy, busy-record, fits-whole, Early, refused, kept, kept-state}
+use Rattle.words.proofs.Land.{no-update, kept-past, unchanged, runs-at, handed-at}
 use Rattle.words.proofs.Land.{cuts-kept, no-number, busy-or-idle}
 
 -- ---- what a start answers, whatever the words: started, or a refusal that is neither full nor damaged
-abbrev pub Early : Refusal → Type 0
-Early Refusal.BadSession = Unit {0}
-Early Refusal.Busy = Unit {0}
-Early Refusal.BadKey = Unit {0}
-Early Refusal.BadRange = Unit {0}
-Early Refusal.Idle = Unit {0}
-Early Refusal.Full = ⊥
-Early Refusal.BadTable = Unit {0}
-Early Refusal.Damaged = ⊥
-
 pub data Begins : Answer → Type 0 where
   begins : Begins Answer.Started
   refuses-early : (why : Refusal) → Early why → Begins (Answer.Refused why)
@@ -141,12 +132,12 @@ module _ (key val : ℕ → ℕ) (σ : State) (h : Past) (m : Drawing) (S : Show
       × Begun key val who op m m′ (r .answer)
 
   -- ---- refused
-  refused-shows : (op : Op.Op) (why : Refusal) → Shows op (keeps (recordOf σ who) why)
-  refused-shows op why = (
+  refused-shows : (op : Op.Op) (why : Refusal) → Early why → Shows op (keeps (recordOf σ who) why)
+  refused-shows op why early = (
     m,
     rw (
       kept-state σ who (Answer.Refused why),
-      kept-past σ (Call.Start who op) h (Answer.Refused why) refused,
+      kept-past σ (Call.Start who op) h (Answer.Refused why) (refused why early),
     ) S,
     not-begun why refl refl,
   )
@@ -174,6 +165,14 @@ module _ (key val : ℕ → ℕ) (σ : State) (h : Past) (m : Drawing) (S : Show
           (getD-set-other (σ .register .sessions) who w session Steps.idle other) (S .runs w w<16)
     ]
 
+    start-under : (w : ℕ) → at (h .under) who (opWord d) w ≡ taskWord (task (change (m .phase) who φ w))
+    start-under w = elim (ℕ-discrete w who) [
+      | yes e ↦ rw e (at-same (h .under) who (opWord d)
+          ∙ ap (λ x. taskWord (task x)) (sym (change-same (m .phase) who φ)))
+      | no other ↦ at-other (h .under) who (opWord d) w other ∙ S .tells .under w
+          ∙ ap (λ x. taskWord (task x)) (sym (change-other (m .phase) who φ w other))
+    ]
+
     start-since : (w : ℕ) → at (h .since) who (stampOf σ) w ≡ change (m .since) who (now empty m) w
     start-since w = elim (ℕ-discrete w who) [
       | yes e ↦ rw e (at-same (h .since) who (stampOf σ) ∙ S .stamp ∙ sym (change-same (m .since) who (now empty m)))
@@ -199,7 +198,7 @@ module _ (key val : ℕ → ℕ) (σ : State) (h : Past) (m : Drawing) (S : Show
     start-shows op e = (
       begun empty m who φ,
       record {
-        inv = start-keeps key val empty m (S .inv) who (starts d quiet fine);
+        reached = gone-on (S .reached) (starting who (starts d quiet fine));
         head-key = S .head-key;
         tail-key = S .tail-key;
         agrees = S .agrees;
@@ -222,6 +221,7 @@ module _ (key val : ℕ → ℕ) (σ : State) (h : Past) (m : Drawing) (S : Show
         cuts = start-cuts;
         tells = record {
           updates = no-update (stampOf σ) (stampOf σ) _ (h .updates) refl ∙ S .tells .updates;
+          under = λ w. ap (λ o. at (h .under) who o w) (sym e) ∙ start-under w;
           since = start-since;
           handed = start-handed;
         };
@@ -238,7 +238,7 @@ module _ (key val : ℕ → ℕ) (σ : State) (h : Past) (m : Drawing) (S : Show
   began-shows : (op : Op.Op) → InWords (Call.Start who op) → who < 16 → busyOf (recordOf σ who) ≡ false
       → Shows op (began (σ .nodes) (recordOf σ who) op)
   began-shows op words low calm = began-cases (Shows op) (σ .nodes) (recordOf σ who) op
-      (λ why _. refused-shows op why) (λ bad order.
+      (refused-shows op) (λ bad order.
       let d = drawn key val (S .head-key) (S .tail-key) op bad order (words .0) (words .1) in
       subst (λ o. Shows op (record {
         session = record { op = o; phase = Phase.Phase.Walk 0 (nextAt (σ .nodes) 0) };
@@ -250,7 +250,7 @@ module _ (key val : ℕ → ℕ) (σ : State) (h : Past) (m : Drawing) (S : Show
       × Shown small key val (go small σ (Call.Start who op)) (note small σ (Call.Start who op) h) m′
       × Begun key val who op m m′ (answer small σ (Call.Start who op))
   start-begun op words = start-cases (Shows op) small (σ .nodes) (σ .entries) who (recordOf σ who) op
-      (λ why _. refused-shows op why) (began-shows op words)
+      (refused-shows op) (began-shows op words)
 
   pub start-shown : (op : Op.Op) → InWords (Call.Start who op) → (m′ : Drawing)
       × Shown small key val (go small σ (Call.Start who op)) (note small σ (Call.Start who op) h) m′
@@ -279,4 +279,4 @@ module _ (key val : ℕ → ℕ) (σ : State) (h : Past) (m : Drawing) (S : Show
   pub idle-shown : m .phase who ≡ idle
       → Shown small key val (go small σ (Call.Step who)) (note small σ (Call.Step who) h) m
   idle-shown quiet = let d = idle-refused quiet in
-      unchanged small key val σ h m (Call.Step who) (Answer.Refused (d .0)) (d .2) refused S
+      unchanged small key val σ h m (Call.Step who) (Answer.Refused (d .0)) (d .2) (refused (d .0) (d .1)) S

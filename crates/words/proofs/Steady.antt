@@ -22,7 +22,7 @@ use Rattle.drawing.specs.Effects.{Effect, logBy, after}
 use Rattle.drawing.specs.Steps.{Out, Step, Waits}
 use Rattle.drawing.proofs.Inv.{Facts}
 use Rattle.drawing.proofs.Room.{Names}
-use Rattle.words.proofs.Show.{Agrees, Nodes, Rows, Runs, HandedIn, outWord, Shown, Advanced}
+use Rattle.words.proofs.Show.{Agrees, Nodes, Rows, Runs, HandedIn, outWord, Shown, Advanced, shown-inv}
 use Rattle.words.proofs.Land.{usedOf, Acts, Busy, NoNumber, no-number, no-update, Landing, land, cuts-kept}
 use Rattle.words.proofs.Land.{wait}
 use Rattle.words.proofs.RowWords.{rows-kept}
@@ -73,7 +73,7 @@ module _ {key val : ℕ → ℕ} {σ : State} {h : Past} {m : Drawing} {t : ℕ}
     (here : m .phase t ≡ φ) where
   -- what its phase says, the record that runs it, and the nodes that it names
   pub its-facts : Facts key val empty m t φ
-  its-facts = rw here at (T .shown .inv .facts t)
+  its-facts = rw here at (shown-inv (T .shown) .own .facts t)
 
   pub its-record : Runs (T .shown .own) φ (recordOf σ t)
   its-record = rw here at (T .shown .runs t (T .low))

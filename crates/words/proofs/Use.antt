@@ -16,7 +16,7 @@ use Rattle.drawing.specs.Phases.{Phase, numbering}
 use Rattle.drawing.specs.Drawing.{Drawing}
 use Rattle.drawing.proofs.Inv.{At}
 use Rattle.drawing.proofs.Room.{distinct-length, Used, Covers, Names, names-used, at-used, number-room}
-use Rattle.words.proofs.Show.{Shown}
+use Rattle.words.proofs.Show.{Shown, shown-inv}
 
 -- ---- the nodes given so far, the head and the tail left out
 abbrev pub given : ℕ → List ℕ
@@ -44,10 +44,10 @@ module _ (key val : ℕ → ℕ) (σ : State) (h : Past) (m : Drawing) (S : Show
   used-below x (inr x≡tail) = omega (arith, x≡tail, S .two)
 
   pub at-below : (x : ℕ) → At empty m x → x < σ .register .counters .nodes
-  at-below x there = used-below x (at-used key val empty m (S .inv) x there)
+  at-below x there = used-below x (at-used key val empty m (shown-inv S) x there)
 
   pub named-below : (t : ℕ) (φ : Phase) → m .phase t ≡ φ → (x : ℕ) → Names φ x → x < σ .register .counters .nodes
-  named-below t φ e x n = used-below x (names-used key val empty m (S .inv) t x (rw e n))
+  named-below t φ e x n = used-below x (names-used key val empty m (shown-inv S) t x (rw e n))
 
   pub in-table : (x : ℕ) → x < σ .register .counters .nodes → x < 512
   in-table x below = omega (arith, below, S .most)
@@ -62,7 +62,7 @@ module _ (key val : ℕ → ℕ) (σ : State) (h : Past) (m : Drawing) (S : Show
   pub in-use-covers : Covers inUse m
   in-use-covers x x≢head has-entry =
       let below = used-below x (inl has-entry) in
-      let x≢tail : x ≢ tail = λ e. has-entry (ap (m .bundle) e ∙ S .inv .ends) in
+      let x≢tail : x ≢ tail = λ e. has-entry (ap (m .bundle) e ∙ shown-inv S .own .ends) in
       given-has (σ .register .counters .nodes - 2) x (omega arith) (omega (arith, S .two))
 
   pub in-use-length : length inUse + 2 ≡ σ .register .counters .nodes
@@ -75,7 +75,7 @@ module _ (key val : ℕ → ℕ) (σ : State) (h : Past) (m : Drawing) (S : Show
     S .stamp,
     S .most,
     in-use-length,
-    number-room key val empty m (S .inv) inUse in-use-covers t u p y z c e,
+    number-room key val empty m (shown-inv S) inUse in-use-covers t u p y z c e,
   )
 
   -- ---- entries: at most 2,041

@@ -1,0 +1,2 @@
+-- Laws of the history that calls give.
+pub mod History
