@@ -17,8 +17,8 @@ use Rattle.onward.specs.declared.Course.{Course}
 use Rattle.onward.specs.declared.Found.{Found}
 use Rattle.onward.specs.declared.Walked.{Walked}
 use Rattle.onward.specs.declared.Far.{Far}
-use Rattle.onward.specs.Onward.{courseOf, belowAt, walkedTo, walkOn, putPair, Handed, handedTo, handedAt, nextKey}
-use Rattle.onward.specs.Onward.{onFound, handOn, Reach, reached, stays, handFar, onCourse, farOf}
+use Rattle.onward.specs.Onward.{courseOf, belowAt, walkedTo, walkOn, putPair, Handed, handedTo, handedAt}
+use Rattle.onward.specs.Onward.{nextKey, onFound, handOn, Reach, reached, stays, handFar, onCourse, farOf}
 
 -- `made` steps, from `from` on and of at most `most`, and no more pairs than steps
 pub record Within (from most count made : ℕ) : Type 0 where
@@ -57,7 +57,8 @@ module _ (z : Size) (ns es : List ℕ) (low high snapshot : ℕ) where
       → HandWithin made (made + m) (handedTo ps (handedAt at handed count made))
   hand-stays m ps at handed count made h = record { no-fewer = omega arith; few-steps = omega arith; few-pairs = h }
 
-  hand-more : (m made : ℕ) (h : Handed) → HandWithin (made + 2) (made + 2 + m) h → HandWithin made (made + suc (suc m)) h
+  hand-more : (m made : ℕ) (h : Handed) → HandWithin (made + 2) (made + 2 + m) h
+      → HandWithin made (made + suc (suc m)) h
   hand-more m made (handedTo ps h) W = record {
     no-fewer = omega (arith, W .no-fewer);
     few-steps = omega (arith, W .few-steps);
@@ -76,7 +77,8 @@ module _ (z : Size) (ns es : List ℕ) (low high snapshot : ℕ) where
   hand-within (suc zero) ps at handed count made h = hand-stays 1 ps at handed count made h
   hand-within (suc (suc m)) ps at handed count made h =
       by (nextKey z ns es ps low high snapshot at handed count)
-      (λ to. hand-within m (putPair ps count (keyAt ns to) (valueAt ns to)) to (handed + 1) (count + 1) (made + 2) (omega (arith, h)))
+      (λ to. hand-within m (putPair ps count (keyAt ns to) (valueAt ns to)) to (handed + 1) (count + 1) (made + 2)
+      (omega (arith, h)))
     where
       by : (f : Found) → ((to : ℕ) → HandWithin (made + 2) (made + 2 + m) (next m ps handed count made to))
           → HandWithin made (made + suc (suc m))

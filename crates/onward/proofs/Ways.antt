@@ -151,7 +151,8 @@ module _ (ns es : List ℕ) (low high at snapshot : ℕ) where
   unfolding followedTo
   follow-past h = rw (le-ltb _ _ h)
 
-  module _ (f : ℕ) (o : Read) (in-table : at < 512) (link : f ≡ newestAt ns at) (read : o ≡ atOf 2048 es f snapshot) where
+  module _ (f : ℕ) (o : Read) (in-table : at < 512) (link : f ≡ newestAt ns at)
+      (read : o ≡ atOf 2048 es f snapshot) where
     pub follow-waits : o ≡ Read.Wait → Found.None ≡ followedTo small ns es low high at snapshot
     unfolding followedTo
     follow-waits h = rw (lt-ltb _ _ in-table, ← link, ← read, h)
@@ -215,8 +216,8 @@ pub give-first : (z : Size) (ns es : List ℕ) (low high snapshot : ℕ) (ps : L
     handed count made most
 give-first z ns es low high snapshot ps at handed count made most = record { same = refl }
 
-module _ (all : Handed) (z : Size) (ns es : List ℕ) (low high snapshot : ℕ) (ps : List ℕ) (at handed count made most : ℕ)
-    (rest : Giving all z ns es low high snapshot ps at handed count made most) where
+module _ (all : Handed) (z : Size) (ns es : List ℕ) (low high snapshot : ℕ) (ps : List ℕ)
+    (at handed count made most : ℕ) (rest : Giving all z ns es low high snapshot ps at handed count made most) where
   pub give-most : most ≤ made → handedTo ps (handedAt at handed count made) ≡ all
   unfolding handOn
   give-most h = let e : most - made ≡ 0 = omega (arith, h) in rw (rest .same, e)
@@ -268,7 +269,8 @@ module _ (more : ℕ) (z : Size) (ns es ps : List ℕ) (s : Session) (count made
       → reached ps′ r ≡ onCourse (courseOf (s .phase)) more z ns es ps s count made
   along-hand at snapshot handed ps′ r e f = rw (← on, e, f)
 
-  pub along-else : k ≡ Course.Other → stays ps s count made ≡ onCourse (courseOf (s .phase)) more z ns es ps s count made
+  pub along-else : k ≡ Course.Other
+      → stays ps s count made ≡ onCourse (courseOf (s .phase)) more z ns es ps s count made
   along-else e = rw (← on, e)
 
 pub ruleset alongs = (along-walk, along-hand, along-else)

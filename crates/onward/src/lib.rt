@@ -262,7 +262,8 @@ pub struct Far {
 }
 
 fn walk_far(nodes: &[u32], op: Op, pred: u32, curr: u32, count: u32, made: u32, most: u32) -> Far
-    ensures { λ r. ⌜ r ≡ walkFar op count (walkOn (most - made) small (now (nodes .entry)) (soughtOf op) pred curr made) ⌝ }
+    ensures { λ r. ⌜ r
+        ≡ walkFar op count (walkOn (most - made) small (now (nodes .entry)) (soughtOf op) pred curr made) ⌝ }
 {
     let sought = terms::sought(op);
     let w = walk_on(nodes, sought, pred, curr, made, most);
@@ -289,8 +290,8 @@ fn hand_far(
 ) -> Far
     requires { ⌜ (from .count ≤ from .made) × (from .made ≤ most) × (most < 4294967295) ⌝ }
     ensures { λ r. ⌜ reached (now (pairs .exit)) r ≡ handFar op snapshot
-        (handOn (most - from .made) small (now (nodes .entry)) (now (entries .entry)) (soughtOf op) (highOf op) snapshot
-        (now (pairs .entry)) (from .at) (from .handed) (from .count) (from .made)) ⌝ }
+        (handOn (most - from .made) small (now (nodes .entry)) (now (entries .entry)) (soughtOf op) (highOf op)
+        snapshot (now (pairs .entry)) (from .at) (from .handed) (from .count) (from .made)) ⌝ }
 {
     let low = terms::sought(op);
     let high = terms::high(op);

@@ -74,7 +74,8 @@ module _ (all : Gone) (z : Size) (who most made : ℕ) (ns es ps : List ℕ) (n 
   told = rw (← P .count)
 
   pub go-limit : most < r .made → gone ns′ es′ ps′ r ≡ all
-  go-limit h = sym told ∙ turn-last all z who most _ _ _ _ _ _ _ further _ _ _ _ (P .steps) (omega (arith, h, P .count))
+  go-limit h =
+      sym told ∙ turn-last all z who most _ _ _ _ _ _ _ further _ _ _ _ (P .steps) (omega (arith, h, P .count))
 
   pub go-stop : r .made ≤ most → r .last .on ≡ false → gone ns′ es′ ps′ r ≡ all
   go-stop h off =

@@ -1,3 +1,6 @@
+-- `onward::hand_on` meets its contract. The loop's invariant: what is left leaves what the whole loop does (`Giving`);
+-- no more pairs are filled than steps are made, no more are made than may be; the pairs keep their length. The measure
+-- is the steps left. Assumes nothing.
 use Prim.Native.Nat.{_≤_, _<_, _-_}
 use mathlib.Core.Path.{_≡_}
 use lib.ListN.{length}
@@ -7,8 +10,6 @@ use Rattle.onward.specs.Onward.{handOn}
 use Rattle.onward.proofs.Ways.{Giving, give-first, give-goes, gives, few-handed}
 use Rattle.onward.proofs.hand_on.Statement.{statement}
 use Rattle.onward.proofs.hand_on.Tie as tie
-
--- `onward::hand_on` meets its contract: each way out is a law of proofs/Ways.antt. Assumes nothing.
 
 abbrev Inv-loop : tie.InvT-loop
 Inv-loop nodes entries pairs₀ low high snapshot most at₀ handed₀ count₀ made₀ pairs at handed count made =

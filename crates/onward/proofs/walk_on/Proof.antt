@@ -1,3 +1,5 @@
+-- `onward::walk_on` meets its contract. The loop's invariant: what is left leaves what the whole loop does
+-- (`Walking`). The measure is the steps left. Assumes nothing.
 use Prim.Native.Nat.{_-_}
 use borrow.Author.Needs.{needs}
 use Rattle.terms.specs.Terms.{small}
@@ -5,8 +7,6 @@ use Rattle.onward.specs.Onward.{walkOn}
 use Rattle.onward.proofs.Ways.{Walking, walk-first, walk-goes, walks}
 use Rattle.onward.proofs.walk_on.Statement.{statement}
 use Rattle.onward.proofs.walk_on.Tie as tie
-
--- `onward::walk_on` meets its contract: each way out is a law of proofs/Ways.antt. Assumes nothing.
 
 abbrev Inv-loop : tie.InvT-loop
 Inv-loop nodes sought from to made most pred₀ curr₀ count₀ pred curr count =

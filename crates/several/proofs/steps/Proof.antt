@@ -1,3 +1,6 @@
+-- `several::steps` meets its contract. The loop's invariant: what is left leaves what the whole call does (`Rest`); no
+-- more pairs are filled than steps are made, no more are made than may be; no slice changes its length. The measure is
+-- the steps left. Assumes nothing.
 use Prim.Native.Nat.{_≤_, _<_, _-_}
 use mathlib.Core.Path.{_≡_}
 use lib.ListN.{length}
@@ -9,17 +12,18 @@ use Rattle.several.proofs.Strides.{go-on, goes, few-pairs, less-left}
 use Rattle.several.proofs.steps.Statement.{statement}
 use Rattle.several.proofs.steps.Tie as tie
 
--- `several::steps` meets its contract: each way out is a law of proofs/Ways.antt. Assumes nothing.
-
 abbrev Inv-loop : tie.InvT-loop
-Inv-loop nodes₀ entries₀ pairs₀ who limit most counters₀ session₀ count₀ made₀ nodes entries pairs counters session count made =
+Inv-loop nodes₀ entries₀ pairs₀ who limit most counters₀ session₀ count₀ made₀ nodes entries pairs counters session
+    count made =
     Rest (severalOf small nodes₀ entries₀ pairs₀ counters₀ who session₀ limit) small who most made nodes entries pairs
     count counters session ×
     (made ≤ most) × (most < 4294967295) × (count ≤ made) × (length nodes ≡ length nodes₀) ×
     (length entries ≡ length entries₀) × (length pairs ≡ length pairs₀)
 
 abbrev μ-loop : tie.MeasureT-loop
-μ-loop nodes₀ entries₀ pairs₀ who limit most counters₀ session₀ count₀ made₀ nodes entries pairs counters session count made = most - made
+μ-loop nodes₀ entries₀ pairs₀ who limit most counters₀ session₀ count₀ made₀ nodes entries pairs counters session
+    count made =
+    most - made
 
 loop-holds : tie.Need-loop-holds Inv-loop μ-loop
 loop-holds c = (search go-first, search needs, search needs, search needs, search needs, search needs, search needs)
