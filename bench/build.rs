@@ -1,11 +1,5 @@
-// Links the static library that `rt staticlib ffi` wrote (RAVENCRUMB_LIB names its folder), and LMDB where asked for.
+// Links LMDB where asked for; the register's library is linked by its wrapper (rust/ravencrumb).
 fn main() {
-    let here = std::env::var("CARGO_MANIFEST_DIR").unwrap_or_default();
-    let folder = std::env::var("RAVENCRUMB_LIB").unwrap_or(format!("{here}/../target/staticlib"));
-    println!("cargo:rustc-link-search=native={folder}");
-    println!("cargo:rustc-link-lib=static=ffi");
-    println!("cargo:rerun-if-env-changed=RAVENCRUMB_LIB");
-    println!("cargo:rerun-if-changed={folder}/libffi.a");
     if std::env::var_os("CARGO_FEATURE_LMDB").is_some() {
         println!("cargo:rustc-link-lib=dylib=lmdb");
     }

@@ -1,7 +1,8 @@
-//! The proved register, through its C library: the calls of include/ravencrumb.h over memory of this program.
+//! The proved register, through its C library: the bare calls of rust/ravencrumb over memory of this program.
 //! Session 0 makes the updates, session 1 the ranges. Two contenders: many steps a call, and a call a step.
 use bench::measure::Register;
 use bench::workload::{HIGH, LOW};
+use ravencrumb::raw;
 
 const INSERT: u32 = 1;
 const REMOVE: u32 = 2;
@@ -13,69 +14,25 @@ const INSERTED: u32 = 5;
 const REMOVED: u32 = 6;
 const END: u32 = 9;
 const FOLLOW: u32 = 11;
-const RECORD: usize = 9;
 const STEPS_MADE: usize = 4;
-
-extern "C" {
-    fn ravencrumb_fresh(n: *mut u32, nl: usize, e: *mut u32, el: usize, w: *mut u32, wl: usize) -> u32;
-    fn ravencrumb_start(
-        n: *const u32,
-        nl: usize,
-        e: *const u32,
-        el: usize,
-        w: *mut u32,
-        wl: usize,
-        a: *mut u32,
-        al: usize,
-        who: u32,
-        kind: u32,
-        first: u32,
-        second: u32,
-    ) -> u32;
-    fn ravencrumb_step(
-        n: *mut u32,
-        nl: usize,
-        e: *mut u32,
-        el: usize,
-        w: *mut u32,
-        wl: usize,
-        a: *mut u32,
-        al: usize,
-        who: u32,
-    ) -> u32;
-    fn ravencrumb_steps(
-        n: *mut u32,
-        nl: usize,
-        e: *mut u32,
-        el: usize,
-        w: *mut u32,
-        wl: usize,
-        p: *mut u32,
-        pl: usize,
-        a: *mut u32,
-        al: usize,
-        who: u32,
-        limit: u32,
-    ) -> u32;
-}
 
 pub struct Lent {
     nodes: Vec<u32>,
     entries: Vec<u32>,
     words: Vec<u32>,
     pairs: Vec<u32>,
-    answer: [u32; 5],
+    answer: [u32; raw::STEPS_ANSWER_WORDS],
     steps: u64,
 }
 
 impl Default for Lent {
     fn default() -> Self {
         Lent {
-            nodes: vec![0; 3072],
-            entries: vec![0; 8192],
-            words: vec![0; 147],
-            pairs: vec![0; 1020],
-            answer: [0; 5],
+            nodes: vec![0; raw::NODE_WORDS],
+            entries: vec![0; raw::ENTRY_WORDS],
+            words: vec![0; raw::WORDS],
+            pairs: vec![0; 2 * raw::MOST_KEYS],
+            answer: [0; raw::STEPS_ANSWER_WORDS],
             steps: 0,
         }
     }
@@ -83,24 +40,8 @@ impl Default for Lent {
 
 impl Lent {
     fn start(&mut self, who: u32, kind: u32, first: u32, second: u32) {
-        let Lent { nodes: n, entries: e, words: w, answer: a, .. } = self;
-        // SAFETY: four slices of this program that do not overlap, each with its own length.
-        unsafe {
-            ravencrumb_start(
-                n.as_ptr(),
-                n.len(),
-                e.as_ptr(),
-                e.len(),
-                w.as_mut_ptr(),
-                w.len(),
-                a.as_mut_ptr(),
-                3,
-                who,
-                kind,
-                first,
-                second,
-            );
-        }
+        let Lent { nodes, entries, words, answer, .. } = self;
+        raw::start(nodes, entries, words, &mut answer[..raw::ANSWER_WORDS], who, kind, first, second);
         assert_eq!(self.answer[0], STARTED);
     }
 
@@ -108,60 +49,28 @@ impl Lent {
     #[inline(always)]
     fn step(&mut self, who: u32) -> u32 {
         self.steps += 1;
-        let Lent { nodes: n, entries: e, words: w, answer: a, .. } = self;
-        // SAFETY: as above.
-        unsafe {
-            ravencrumb_step(
-                n.as_mut_ptr(),
-                n.len(),
-                e.as_mut_ptr(),
-                e.len(),
-                w.as_mut_ptr(),
-                w.len(),
-                a.as_mut_ptr(),
-                3,
-                who,
-            );
-        }
+        let Lent { nodes, entries, words, answer, .. } = self;
+        raw::step(nodes, entries, words, &mut answer[..raw::ANSWER_WORDS], who);
         self.answer[0]
     }
 
     /// Steps until an answer that is not working, with room for that many keys; the last answer's name.
     #[inline(always)]
     fn many(&mut self, who: u32, keys: usize) -> u32 {
-        let Lent { nodes: n, entries: e, words: w, pairs: p, answer: a, .. } = self;
-        // SAFETY: as above, and five slices.
-        unsafe {
-            ravencrumb_steps(
-                n.as_mut_ptr(),
-                n.len(),
-                e.as_mut_ptr(),
-                e.len(),
-                w.as_mut_ptr(),
-                w.len(),
-                p.as_mut_ptr(),
-                2 * keys,
-                a.as_mut_ptr(),
-                a.len(),
-                who,
-                u32::MAX,
-            );
-        }
+        let Lent { nodes, entries, words, pairs, answer, .. } = self;
+        raw::steps(nodes, entries, words, &mut pairs[..2 * keys], answer, who, u32::MAX);
         self.steps += self.answer[STEPS_MADE] as u64;
         self.answer[0]
     }
 
     fn fresh(&mut self) {
-        let Lent { nodes: n, entries: e, words: w, .. } = self;
-        // SAFETY: as above.
-        let refused =
-            unsafe { ravencrumb_fresh(n.as_mut_ptr(), n.len(), e.as_mut_ptr(), e.len(), w.as_mut_ptr(), w.len()) };
-        assert_eq!(refused, 0);
+        let Lent { nodes, entries, words, .. } = self;
+        assert_eq!(raw::fresh(nodes, entries, words), 0);
     }
 
     fn open(&mut self) {
         self.start(1, RANGE, LOW, HIGH);
-        while self.words[3 + RECORD + 3] != FOLLOW {
+        while self.words[3 + raw::RECORD_WORDS + 3] != FOLLOW {
             assert_eq!(self.step(1), WORKING);
         }
     }
