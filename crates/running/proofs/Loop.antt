@@ -2,7 +2,7 @@
 -- In order: output in two parts; a turn; room; the first turn; the room that a run asks for.
 -- `all` is what the whole run writes. Assumes nothing.
 use Prim.Native.Nat.{ℕ, _+_, _-_, _*_, _≤_, _<_}
-use mathlib.Core.Path.{_≡_, refl, sym, _∙_}
+use mathlib.Core.Path.{_≡_, refl, _∙_}
 use mathlib.Core.List.{List, _++_}
 use native.Mathlib.Omega.{arith}
 use native.Mathlib.Nat.{add-zero}
@@ -41,6 +41,7 @@ write-first out bytes place (ran ns es rest) =
 
 -- ---- a turn
 
+-- the lines from p on, served from here and printed from a on, write what the whole run writes
 pub record Rest (all : Wrote) (z : Size) (s ns es out : List ℕ) (c : Counters) (ss : List Session) (p a : ℕ) :
     Type 0 where
   pub same : all ≡ writeAt out a (linesRun (linesOf (drop p s)) z ns es (record { counters = c; sessions = ss }))
@@ -74,29 +75,16 @@ module _ (all : Wrote) (z : Size) (s ns es out : List ℕ) (c : Counters) (ss : 
           Rest all z s ns′ es′ out′ (t .counters) (set ss i (t .session)) (l .next) (t .place)
       unfolding g
       turn-on (done ns″ es″ r) did ns′ es′ out′ t told =
-          let w : turned ns′ es′ out′ t ≡ turned ns″ es″ (sets out a (answerLine (callerOf call) (r .answer)))
-          (left r (a + length (answerLine (callerOf call) (r .answer)))) = told in
+          let said = answerLine (callerOf call) (r .answer) in
+          let w : turned ns′ es′ out′ t ≡ turned ns″ es″ (sets out a said) (left r (a + length said)) = told in
           let en : ns′ ≡ ns″ = cc in
           let ee : es′ ≡ es″ = cc in
-          let eo : out′ ≡ sets out a (answerLine (callerOf call) (r .answer)) = cc in
-          let et : t ≡ left r (a + length (answerLine (callerOf call) (r .answer))) = cc in
-          let after = linesRun (linesOf (drop (l .next) s)) z ns″ es″
-          (record { counters = r .counters; sessions = set ss i (r .session) }) in
-          record {
-            same = opened ∙
-                rw (
-                  is,
-                  call-slot z ns es g call,
-                  ← at-slot,
-                  ← taken,
-                  ← did,
-                  write-first out (answerLine (callerOf call) (r .answer)) a after,
-                  en,
-                  ee,
-                  eo,
-                  et,
-                );
-          }
+          let eo : out′ ≡ sets out a said = cc in
+          let et : t ≡ left r (a + length said) = cc in
+          let g′ : Register = record { counters = r .counters; sessions = set ss i (r .session) } in
+          let put = write-first out said a (linesRun (linesOf (drop (l .next) s)) z ns″ es″ g′) in
+          let at = call-slot z ns es g call in
+          record { same = opened ∙ rw (is, at, ← at-slot, ← taken, ← did, put, en, ee, eo, et) }
 
       pub run-call : (ns′ es′ out′ : List ℕ) (t : Turned) → turned ns′ es′ out′ t ≡ turnOf z ns es out a c call x →
           Rest all z s ns′ es′ out′ (t .counters) (set ss i (t .session)) (l .next) (t .place)
@@ -110,9 +98,8 @@ pub ruleset running = (run-all, run-bad, run-call)
 pub falls : (n p q : ℕ) → p < n → p < q → n - q < n - p
 falls n p q h k = omega arith
 
-module _ (n p a : ℕ) (inside : p < n) (bound : a ≤ 11 * p) where
-  pub room-bad : (m o : ℕ) → 11 * n ≤ m → o ≡ m → a + length (refusedLine badLine) ≤ o
-  room-bad m o k z = omega (arith, bad-line-length)
+pub room-bad : (n p a m o : ℕ) → p < n → a ≤ 11 * p → 11 * n ≤ m → o ≡ m → a + length (refusedLine badLine) ≤ o
+room-bad n p a m o h b k z = omega (arith, bad-line-length)
 
 pub next-bad : (p q a r : ℕ) (out out′ : List ℕ) → a ≤ 11 * p → p < q → Puts out out′ a (refusedLine badLine) r →
     r ≤ 11 * q

@@ -1,9 +1,9 @@
 -- What the line at a place is good for: the run over the lines left begins with it, and it ends further on.
--- In order: the ways through the code; the line and what comes after it; what a caller's places need.
+-- In order: the ways through the code; the line and what comes after it.
 -- Assumes nothing.
-use Prim.Native.Nat.{ℕ, suc, _+_, _-_, _*_, _≤_, _<_}
-use mathlib.Core.Path.{_≡_, refl, sym, _∙_, ap}
-use mathlib.Core.List.{List, [], _++_, append-nil}
+use Prim.Native.Nat.{ℕ, suc, _+_, _-_, _≤_, _<_}
+use mathlib.Core.Path.{_≡_}
+use mathlib.Core.List.{List, append-nil}
 use mathlib.Core.Logic.{⊎-elim}
 use native.Mathlib.Omega.{arith}
 use lib.ListN.{length, take, drop, length-drop, drop-of-length-le}
@@ -16,10 +16,10 @@ use Rattle.terms.specs.declared.Size.{Size}
 use Rattle.sixteen.specs.declared.Call.{Call}
 use Rattle.sixteen.specs.declared.Register.{Register}
 use Rattle.lines.specs.declared.Line.{Line}
-use Rattle.lines.specs.Lines.{lineIn, refusedLine, badLine}
+use Rattle.lines.specs.Lines.{lineIn}
 use Rattle.lines.proofs.Room.{call-long}
-use Rattle.running.specs.Running.{Ran, ran, first, onLine, linesRun}
-use Rattle.running.specs.OneLine.{readTo, readAt}
+use Rattle.running.specs.Running.{onLine, linesRun}
+use Rattle.running.specs.OneLine.{readAt}
 use Rattle.running.specs.declared.Read.{Read}
 
 -- ---- the ways through the code
@@ -42,7 +42,7 @@ module _ (s : List ℕ) (p e : ℕ) (end : e ≡ p + lineLength (drop p s)) wher
 
 pub ruleset reads = (read-whole, read-torn, end-from, end-upto)
 
--- ---- the line and what comes after it
+-- ---- the line and what comes after it; a call has 6 bytes and byte 10 at least
 
 pub record Begun (s : List ℕ) (p : ℕ) (r : Read) : Type 1 where
   pub from : p < r .next
