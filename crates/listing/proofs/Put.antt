@@ -7,14 +7,16 @@ use mathlib.Core.List.{List, [], _∷_, _++_}
 use mathlib.Core.Bool.{Bool, true, false}
 use native.Mathlib.Omega.{arith}
 use native.Mathlib.Numerals.{add-one}
+use native.Mathlib.Nat.{le-of-lt}
 use lib.ListN.{length, getD, drop, set, length-append, drop-of-length-le}
 use lib.Seq.{sets, drop-cons}
+use lib.Dec.{lit≤}
 use borrow.Author.Tests.{le-leb, lt-leb}
 use Rattle.text.specs.Text.{digits, Puts}
 use Rattle.text.proofs.Write.{sets-append, short, one-digit}
 use Rattle.listing.specs.Listing.{editionName, stampName, keyName, valueName, countName}
 use Rattle.listing.specs.Listing.{fieldOf, pairOf, pairs, headOf, bodyOf, listingOf}
-use Rattle.listing.specs.Listing.{keyRoom, goodPairs, done, writeOf}
+use Rattle.listing.specs.Listing.{goodPairs, done, writeOf}
 use Rattle.listing.specs.declared.Written.{Written}
 use Rattle.listing.proofs.Pairs.{good-counts}
 
@@ -197,7 +199,5 @@ pub write-bad : (most : ℕ) (ks vs : List ℕ) (g : Bool) → g ≡ goodPairs m
 unfolding writeOf
 write-bad most ks vs g f y stamp o = rw (← f, y)
 
-pub room-small : keyRoom ≤ 65536
-room-small = omega arith
-
-pub ruleset writes = (room-small, good-same, good-few, write-all, write-no-room, write-room, write-bad)
+-- a room compared by `<`, and a number of keys that is written out, are as good
+pub ruleset writes = (le-of-lt, lit≤, good-same, good-few, write-all, write-no-room, write-room, write-bad)
