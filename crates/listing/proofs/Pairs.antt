@@ -7,6 +7,7 @@ use mathlib.Core.List.{List, [], _∷_}
 use mathlib.Core.Bool.{Bool, true, false, cond}
 use mathlib.Core.Logic.{_↔_, _⊎_, inl, inr}
 use native.Mathlib.Omega.{arith}
+use native.Mathlib.Nat.{le-of-lt}
 use native.Mathlib.Numerals.{add-one}
 use lib.ListN.{length, getD, drop, drop-of-length-le, List·getD-eq-default}
 use lib.Seq.{drop-cons}
@@ -24,9 +25,13 @@ module _ (ks : List ℕ) (last i : ℕ) (inv : rising 0 ks ≡ rising last (drop
   unfolding rising
   falls-low h k = rw (inv, drop-cons ks i 0 h, le-leb (getD ks i 0) last k)
 
-  pub falls-tail : i < length ks → last < getD ks i 0 → largest ≤ getD ks i 0 → false ≡ rising 0 ks
+  pub falls-tail : i < length ks → largest ≤ getD ks i 0 → false ≡ rising 0 ks
   unfolding rising
-  falls-tail h k e = rw (inv, drop-cons ks i 0 h, lt-leb (getD ks i 0) last k, le-leb largest (getD ks i 0) e)
+  falls-tail h e = rw (inv, drop-cons ks i 0 h, le-leb largest (getD ks i 0) e) (by (leb (getD ks i 0) last))
+    where
+      by : (t : Bool) → false ≡ cond t false false
+      by true = refl
+      by false = refl
 
   pub rises-on : i < length ks → last < getD ks i 0 → getD ks i 0 < largest →
       rising 0 ks ≡ rising (getD ks i 0) (drop (i + 1) ks)
@@ -38,7 +43,7 @@ module _ (ks : List ℕ) (last i : ℕ) (inv : rising 0 ks ≡ rising last (drop
   unfolding rising
   rises-all h = rw (inv, drop-of-length-le ks h)
 
-pub ruleset risen = (falls-low, falls-tail, rises-on, rises-all)
+pub ruleset risen = (le-of-lt, falls-low, falls-tail, rises-on, rises-all)
 
 -- ---- the test
 

@@ -1,15 +1,14 @@
 -- A call with one record is the call over sixteen records.
 -- In order: a record put back as it was; a call of a session above 15; any call; the ways through the code.
 -- Assumes nothing.
-use Prim.Native.Nat.{ℕ, zero, suc, _+_, _≤_, _<_}
+use Prim.Native.Nat.{ℕ, zero, suc, _+_, _≤_, _<_, min}
 use mathlib.Core.Path.{_≡_, refl, ap}
 use mathlib.Core.List.{List, [], _∷_}
 use mathlib.Core.Logic.{⊎-elim}
 use mathlib.Core.Bool.{Bool, true, false, cond}
 use native.Mathlib.Omega.{arith}
 use lib.ListN.{length, getD, set}
-use lib.Dec.{ltb}
-use borrow.Author.Tests.{lt-ltb, le-ltb}
+use borrow.Author.Tests.{le-ltb}
 use Rattle.text.specs.Text.{Puts}
 use Rattle.text.proofs.Basics.{split}
 use Rattle.terms.specs.declared.Size.{Size}
@@ -74,13 +73,18 @@ kept g c i j a = rw (set-same (g .sessions) i idle, set-same (g .sessions) j idl
 
 -- ---- any call
 
+own : (who : ℕ) → who < 16 → min who 15 ≡ who
+own who h = omega arith
+
+last : (who : ℕ) → 16 ≤ who → min who 15 ≡ 15
+last who h = omega arith
+
 module _ (z : Size) (ns es : List ℕ) (g : Register) where
   below : (call : Call) → callerOf call < 16 →
       serveOf z ns es g call ≡
       stored g (slotOf call) (callOf z ns es (g .counters) call (getD (g .sessions) (slotOf call) idle))
-  unfolding slotOf
-  below (Call.Start who op) h = rw (lt-ltb who 16 h)
-  below (Call.Step who) h = rw (lt-ltb who 16 h) (by (stepOf z ns es (g .counters) who (sessionOf (g .sessions) who)))
+  below (Call.Start who op) h = rw (own who h)
+  below (Call.Step who) h = rw (own who h) (by (stepOf z ns es (g .counters) who (sessionOf (g .sessions) who)))
     where
       by : (d : Done) → afterStep g who d ≡ stored g who d
       by (done ns′ es′ r) = refl
@@ -88,17 +92,16 @@ module _ (z : Size) (ns es : List ℕ) (g : Register) where
   above : (call : Call) → 16 ≤ callerOf call →
       serveOf z ns es g call ≡
       stored g (slotOf call) (callOf z ns es (g .counters) call (getD (g .sessions) (slotOf call) idle))
-  unfolding slotOf
   above (Call.Start who op) past =
       rw (
-        le-ltb who 16 past,
+        last who past,
         start-past z ns es who (getD (g .sessions) who idle) op past,
         start-past z ns es who (getD (g .sessions) 15 idle) op past,
       )
       (ap (served ns es) (kept g (g .counters) who 15 (Answer.Refused (why z ns es))))
   above (Call.Step who) past =
       rw (
-        le-ltb who 16 past,
+        last who past,
         step-past z ns es (g .counters) who (getD (g .sessions) who idle) past,
         step-past z ns es (g .counters) who (getD (g .sessions) 15 idle) past,
       )
@@ -112,25 +115,10 @@ module _ (z : Size) (ns es : List ℕ) (g : Register) where
 
 module _ (call : Call) (who : ℕ) (called : who ≡ callerOf call) where
   pub slot-below : who < 16 → who ≡ slotOf call
-  unfolding slotOf
-  slot-below h = rw (← called, lt-ltb who 16 h)
+  slot-below h = omega arith
 
   pub slot-above : 16 ≤ who → 15 ≡ slotOf call
-  unfolding slotOf
-  slot-above h = rw (← called, le-ltb who 16 h)
-
-slot-bound : (call : Call) → slotOf call < 16
-unfolding slotOf
-slot-bound call = ⊎-elim (λ h. low h) (λ h. high h) (split (callerOf call) 16)
-  where
-    low : callerOf call < 16 → cond (ltb (callerOf call) 16) (callerOf call) 15 < 16
-    low h = rw (lt-ltb (callerOf call) 16 h) h
-
-    high : 16 ≤ callerOf call → cond (ltb (callerOf call) 16) (callerOf call) 15 < 16
-    high h = rw (le-ltb (callerOf call) 16 h) (omega arith)
-
-pub slot-small : (call : Call) (i : ℕ) → i ≡ slotOf call → i < 16
-slot-small call i e = rw e (slot-bound call)
+  slot-above h = omega arith
 
 pub ruleset slots = (slot-below, slot-above)
 

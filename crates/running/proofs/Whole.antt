@@ -3,10 +3,13 @@
 use Prim.Native.Nat.{ℕ, _+_, _*_, _≤_, _<_}
 use mathlib.Core.Path.{_≡_}
 use mathlib.Core.List.{List}
+use mathlib.Core.Logic.{⊎-elim}
 use native.Mathlib.Omega.{arith}
 use lib.ListN.{length}
+use lib.Dec.{lit≤}
 use borrow.Author.Tests.{lt-ltb, le-ltb}
 use Rattle.text.specs.Text.{linesOf, Puts}
+use Rattle.text.proofs.Basics.{split}
 use Rattle.terms.specs.declared.Size.{Size}
 use Rattle.terms.specs.declared.Counters.{Counters}
 use Rattle.terms.specs.declared.Refusal.{Refusal}
@@ -25,8 +28,11 @@ module _ (n k m : ℕ) (asked : k ≡ roomFor n) (room : k ≤ m) where
   pub room-for-lines : n ≤ 16384 → 11 * n ≤ m
   room-for-lines h = omega (arith, room-read n h)
 
-  pub room-for-one : 16384 < n → 0 + length (refusedLine tooLong) ≤ m
-  room-for-one h = omega (arith, room-long n h, too-long-length)
+  -- above any number: input of one byte has room for a line already
+  pub room-for-one : (j : ℕ) → j < n → 0 + length (refusedLine tooLong) ≤ m
+  room-for-one j h =
+      ⊎-elim (λ l. omega (arith, room-long n l, too-long-length)) (λ l. omega (arith, room-read n l, too-long-length))
+      (split 16384 n)
 
 pub ruleset enough = (room-for-lines, room-for-one)
 
@@ -38,11 +44,11 @@ module _ (z : Size) (input ns es out : List ℕ) (k : ℕ) (asked : k ≡ roomFo
   no-room h = rw (← asked, lt-ltb (length out) k h)
 
   module _ (room : k ≤ length out) where
-    pub too-long : (out′ : List ℕ) (r : ℕ) → 16384 < length input → Puts out out′ 0 (refusedLine tooLong) r →
-        outcome ns es out′ (Ended.Length r) ≡ runOf z input ns es out
+    pub too-long : (out′ : List ℕ) (r j : ℕ) → j < length input → 16384 ≤ j →
+        Puts out out′ 0 (refusedLine tooLong) r → outcome ns es out′ (Ended.Length r) ≡ runOf z input ns es out
     unfolding runOf writeAt
-    too-long out′ r h puts =
-        rw (← asked, le-ltb (length out) k room, lt-ltb 16384 (length input) h, puts .0, puts .1)
+    too-long out′ r j h b puts =
+        rw (← asked, le-ltb (length out) k room, lt-ltb 16384 (length input) (omega arith), puts .0, puts .1)
 
     module _ (within : length input ≤ 16384) (ns₁ es₁ : List ℕ) (o : Opened)
         (fresh : opened ns₁ es₁ o ≡ freshOf z ns es) where
@@ -59,4 +65,4 @@ module _ (z : Size) (input ns es out : List ℕ) (k : ℕ) (asked : k ≡ roomFo
       bad-table why refused =
           rw (← asked, le-ltb (length out) k room, le-ltb 16384 (length input) within, ← fresh, refused)
 
-pub ruleset ways = (no-room, too-long, ran-through, bad-table)
+pub ruleset ways = (no-room, too-long, ran-through, bad-table, lit≤)

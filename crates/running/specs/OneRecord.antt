@@ -1,12 +1,10 @@
 -- A call with its session's one record: what the run's loop does where it keeps the sixteen records in place.
 -- In order: where a call's record stands; the call; the call and its answer printed.
 -- That this is the call over sixteen records is a law (proofs/Slots.antt). Assumes nothing.
-use Prim.Native.Nat.{ℕ, _+_}
+use Prim.Native.Nat.{ℕ, _+_, min}
 use mathlib.Core.List.{List}
-use mathlib.Core.Bool.{cond}
 use lib.ListN.{length}
 use lib.Seq.{sets}
-use lib.Dec.{ltb}
 use Rattle.terms.specs.declared.Size.{Size}
 use Rattle.terms.specs.declared.Counters.{Counters}
 use Rattle.steps.specs.declared.Session.{Session}
@@ -20,8 +18,8 @@ use Rattle.running.specs.Running.{callerOf}
 use Rattle.running.specs.declared.Turned.{Turned}
 
 -- a session above 15 has no record, and is lent the last one
-unfoldable pub slotOf : Call → ℕ
-slotOf call = cond (ltb (callerOf call) 16) (callerOf call) 15
+abbrev pub slotOf : Call → ℕ
+slotOf call = min (callerOf call) 15
 
 abbrev pub begun : Counters → Started → Stepped
 begun c r = record { counters = c; session = r .session; answer = r .answer }

@@ -1,6 +1,7 @@
 // The whole runner as one function (document 01, "The runner"): from an input and two lent tables to an output and
 // its length.
-// In order: what a run answers; a call and its session's record; a turn; the room a run needs; the lines; the run.
+// In order: what a run answers; a call and its session's record; a turn; the room a run needs; one line; the lines;
+// the run.
 // The sixteen records stay where they are in `serve_lines`: each line takes one out and puts one back.
 // Not here: lines and answers (crate lines), reading and writing files (crates runner and cases). Assumes nothing.
 ghost use mathlib.Core.Path.{_≡_};
@@ -12,13 +13,13 @@ ghost use Rattle.steps.specs.Steps.{done};
 ghost use Rattle.sixteen.specs.Sixteen.{freshRegister};
 ghost use Rattle.running.specs.Running.{callerOf, linesRun, wrote, writeAt, roomFor, outcome, runOf};
 ghost use Rattle.running.specs.OneRecord.{slotOf, callOf, turned, turnOf};
+ghost use Rattle.running.specs.OneLine.{readAt};
 use lines::Line;
 use register::Opened;
 use sixteen::Call;
 use steps::Session;
 use steps::Stepped;
 use terms::Counters;
-use text::Seen;
 
 // How many bytes were written, or why none were: the output is too short, or a lent table has another length.
 pub enum Ended {
@@ -110,6 +111,28 @@ fn room(n: usize) -> usize
     11
 }
 
+// A line without its byte 10, and the place after both.
+struct Read {
+    line: Line,
+    next: usize,
+}
+
+// The line at `place`. A last line without byte 10 is bad, whatever it says.
+fn line_at(input: &[u8], place: usize) -> Read
+    requires { ⌜ place ≤ length (now input) ⌝ }
+    ensures { λ r. ⌜ r ≡ readAt (now (input .entry)) place ⌝ }
+{
+    let e = text::line_end(input, place);
+    let line = lines::read_line(&input[place..e]);
+    if e < input.len() {
+        return Read { line, next: e + 1 };
+    }
+    Read {
+        line: Line::Bad,
+        next: e,
+    }
+}
+
 // The lines one after the other, on the register that the tables hold with the counters c and sixteen idle records.
 fn serve_lines(
     input: &[u8],
@@ -129,33 +152,24 @@ fn serve_lines(
     let mut place: usize = 0;
     let mut at: usize = 0;
     while place < input.len() {
-        match text::next_line(input, place) {
-            Seen::End => {
-                return at;
+        let r = line_at(input, place);
+        let next = r.next;
+        let line = r.line;
+        match line {
+            Line::Bad => {
+                at = lines::print_refusal(out, at, 13);
+                place = next;
             }
-            Seen::Torn => {
-                return lines::print_refusal(out, at, 13);
-            }
-            Seen::Line(e) => {
-                let next = e + 1;
-                match lines::read_line(&input[place..e]) {
-                    Line::Bad => {
-                        at = lines::print_refusal(out, at, 13);
-                        place = next;
-                        continue;
-                    }
-                    Line::Is(call) => {
-                        let i = slot(call);
-                        let s = sessions[i];
-                        let t = turn(nodes, entries, out, at, counters, call, s);
-                        let used = t.counters;
-                        counters = used;
-                        let kept = t.session;
-                        sessions[i] = kept;
-                        at = t.place;
-                        place = next;
-                    }
-                }
+            Line::Is(call) => {
+                let i = slot(call);
+                let s = sessions[i];
+                let t = turn(nodes, entries, out, at, counters, call, s);
+                let kept = t.session;
+                sessions[i] = kept;
+                let used = t.counters;
+                counters = used;
+                at = t.place;
+                place = next;
             }
         }
     }

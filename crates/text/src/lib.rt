@@ -2,7 +2,8 @@
 // listing and for the runner.
 // In order: answers; a byte; reading a number; writing one; lines; a line's name and number.
 // Not here: names and the order of lines. Every answer is an equation with a definition of specs/Text.antt.
-// `put_number` and `put_bytes` ask for room: they are parts of writers that have checked it.
+// `put_number` and `put_bytes` ask for room, and `line_end` for a place within: they are parts of callers that have
+// checked it.
 ghost use mathlib.Core.Path.{_≡_};
 ghost use Prim.Native.Nat.{_+_, _≤_};
 ghost use lib.ListN.{length, drop};
@@ -144,7 +145,7 @@ fn ends_line(b: u8) -> bool
 }
 
 // Where the first line end at or after `place` stands, or the length.
-fn line_end(s: &[u8], place: usize) -> usize
+pub fn line_end(s: &[u8], place: usize) -> usize
     requires { ⌜ place ≤ length (now s) ⌝ }
     ensures { λ r. ⌜ r ≡ place + lineLength (drop place (now (s .entry))) ⌝ }
 {
