@@ -345,7 +345,7 @@ fn session_from(w: Words) -> Session
     Session { op, phase }
 }
 
-fn all_zero(x: u32, y: u32, z: u32) -> bool
+pub fn all_zero(x: u32, y: u32, z: u32) -> bool
     ensures { λ r. ⌜ r ≡ sameThree x y z 0 0 0 ⌝ }
 {
     if x == 0 {

@@ -9,9 +9,11 @@ ghost use Rattle.packing.specs.Packing.{
   countersAt,
   putCounters,
   recordAt,
+  phaseNumber,
   putOp,
   putFront,
   putBack,
+  putPhase,
   putRecord,
   freshWords,
   refusedBy,
@@ -70,6 +72,13 @@ pub fn record_at(words: &[u32], who: u32) -> Words
     Words { op, phase }
 }
 
+// The phase's number alone, for who asks nothing else of a record.
+pub fn phase_number(words: &[u32], who: u32) -> u32
+    ensures { λ r. ⌜ r ≡ phaseNumber (now (words .entry)) who ⌝ }
+{
+    table::word(words, 9, who, 6)
+}
+
 fn put_op(words: &mut [u32], who: u32, w: OpWords)
     ensures { λ _. ⌜ now (words .exit) ≡ putOp (now (words .entry)) who w ⌝ }
 {
@@ -94,14 +103,20 @@ fn put_back(words: &mut [u32], who: u32, w: PhaseWords)
     table::store(words, 9, who, 11, w.e);
 }
 
+pub fn put_phase(words: &mut [u32], who: u32, w: PhaseWords)
+    ensures { λ _. ⌜ now (words .exit) ≡ putPhase (now (words .entry)) who w ⌝ }
+{
+    put_front(words, who, w);
+    put_back(words, who, w);
+}
+
 pub fn put_record(words: &mut [u32], who: u32, w: Words)
     ensures { λ _. ⌜ now (words .exit) ≡ putRecord (now (words .entry)) who w ⌝ }
 {
     let op = w.op;
     let phase = w.phase;
     put_op(words, who, op);
-    put_front(words, who, phase);
-    put_back(words, who, phase);
+    put_phase(words, who, phase);
 }
 
 // An idle record's words are all 0.
