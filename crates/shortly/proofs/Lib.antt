@@ -1,0 +1,2 @@
+-- Each way through the short ways' functions.
+pub mod Ways

@@ -1,0 +1,2 @@
+-- The short ways of a step.
+pub mod Shortly
