@@ -12,11 +12,11 @@ use Rattle.terms.specs.Terms.{soughtOf, namesOf}
 use Rattle.terms.specs.declared.Size.{Size}
 use Rattle.terms.specs.declared.Op.{Op}
 use Rattle.encoding.specs.declared.Words.{Words}
-use Rattle.encoding.specs.Encoding.{phaseWith, opFrom, sameThree, opRight}
+use Rattle.encoding.specs.Encoding.{phaseWith, opRight}
 use Rattle.packing.specs.Packing.{replyWith}
 use Rattle.shortly.specs.declared.Short.{Short}
 use Rattle.shortly.specs.Shortly.{movesOn, named, walkShortly, seesShortly, followShortly, handShortly}
-use Rattle.shortly.specs.Shortly.{rangeShortly}
+use Rattle.shortly.specs.Shortly.{walkZeros, rangeZeros, rangeShortly}
 
 -- ---- Walk that moves on
 module _ (z : Size) (ns : List ℕ) (op : Op) (curr : ℕ) where
@@ -41,7 +41,7 @@ module _ (z : Size) (ns : List ℕ) (w : Words) where
   unfolding walkShortly
   walks-not h = rw (ne-eqb _ _ h)
 
-  module _ (p : Bool) (one : w .phase .phase ≡ 1) (unused : p ≡ sameThree (w .phase .c) (w .phase .d) (w .phase .e) 0 0 0)
+  module _ (p : Bool) (one : w .phase .phase ≡ 1) (unused : p ≡ walkZeros w)
     where
       pub walks-used : p ≡ false → Short.Long ≡ walkShortly z ns w
       unfolding walkShortly
@@ -134,7 +134,7 @@ module _ (z : Size) (ns es : List ℕ) (w : Words) where
   unfolding rangeShortly
   ranges-not h = rw (ne-eqb _ _ h)
 
-  module _ (p : Bool) (four : w .op .kind ≡ 4) (unused : p ≡ sameThree 0 (w .phase .d) (w .phase .e) 0 0 0) where
+  module _ (p : Bool) (four : w .op .kind ≡ 4) (unused : p ≡ rangeZeros w) where
     pub ranges-used : p ≡ false → Short.Long ≡ rangeShortly z ns es w
     unfolding rangeShortly
     ranges-used h = rw (eq-eqb _ _ four, ← unused, h)

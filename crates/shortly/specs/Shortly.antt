@@ -1,11 +1,11 @@
 -- The short ways of a step: what is tested of a record's words and of the tables, and what the step then leads to.
--- In order: Walk that moves on; Follow that goes on or meets a key; Hand; a range's two. `z` is the size, `ns` and `es`
--- are the tables, `w` a record's words. A way tells the words of the next phase and the answer's (names: 2 working, 4
--- key); Long where a test fails.
+-- In order: Walk that moves on; Follow that goes on or meets a key; Hand; a range's two. `z` is the size, `ns` and
+-- `es` are the tables, `w` a record's words. A way tells the words of the next phase and the answer's (names: 2
+-- working, 4 key); Long where a test fails.
 -- Not here: that this is the step (proofs/Agrees.antt). Assumes nothing.
 use Prim.Native.Nat.{ℕ, _+_}
 use mathlib.Core.List.{List}
-use mathlib.Core.Bool.{cond}
+use mathlib.Core.Bool.{Bool, cond}
 use lib.Dec.{ltb, leb, eqb}
 use Rattle.bundle.specs.Bundle.{atOf}
 use Rattle.bundle.specs.declared.Read.{Read}
@@ -30,10 +30,14 @@ movesOn z ns op curr =
 abbrev pub named : Words → Op
 named w = opFrom (w .op .kind) (w .op .first) (w .op .second)
 
+-- the words that Walk does not use are 0
+abbrev pub walkZeros : Words → Bool
+walkZeros w = sameThree (w .phase .c) (w .phase .d) (w .phase .e) 0 0 0
+
 unfoldable pub walkShortly : Size → List ℕ → Words → Short
 walkShortly z ns w =
     cond (eqb (w .phase .phase) 1)
-    (cond (sameThree (w .phase .c) (w .phase .d) (w .phase .e) 0 0 0)
+    (cond (walkZeros w)
     (cond (opRight (w .op))
     (cond (namesOf (named w)) (movesOn z ns (named w) (w .phase .b)) Short.Long)
     Short.Long)
@@ -69,11 +73,14 @@ handShortly z ns at snapshot handed =
     Short.Long)
     Short.Long
 
--- ---- a range's two, by the phase
+-- ---- a range's two, by the phase; the words that they do not use are 0
+abbrev pub rangeZeros : Words → Bool
+rangeZeros w = sameThree 0 (w .phase .d) (w .phase .e) 0 0 0
+
 unfoldable pub rangeShortly : Size → List ℕ → List ℕ → Words → Short
 rangeShortly z ns es w =
     cond (eqb (w .op .kind) 4)
-    (cond (sameThree 0 (w .phase .d) (w .phase .e) 0 0 0)
+    (cond (rangeZeros w)
     (cond (eqb (w .phase .phase) 11)
     (followShortly z ns es (w .op .first) (w .op .second) (w .phase .a) (w .phase .b) (w .phase .c))
     (cond (eqb (w .phase .phase) 12) (handShortly z ns (w .phase .a) (w .phase .b) (w .phase .c)) Short.Long))

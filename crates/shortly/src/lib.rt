@@ -1,9 +1,9 @@
 // The short ways of a step: what nearly every step of a walk and of a range does, told from a record's nine words
 // without decoding them.
-// In order: what a short way tells; Walk that moves on; Follow that goes on or meets a key; Hand; a range's two. A short
-// way tells the words of the phase that the step leads to, and the answer; it tests all that it needs, and where a
-// test fails it says Long: the step is then the register's, on the record decoded. proofs/Agrees.antt has that what a
-// short way tells is that step's outcome. Nothing is written here.
+// In order: what a short way tells; Walk that moves on; Follow that goes on or meets a key; Hand; a range's two. A
+// short way tells the words of the phase that the step leads to, and the answer; it tests all that it needs, and where
+// a test fails it says Long: the step is then the register's, on the record decoded. proofs/Agrees.antt has that what
+// a short way tells is that step's outcome. Nothing is written here.
 // Not here: the register's step (crate register), storing the words and the answer (crate ffi). Assumes nothing.
 ghost use mathlib.Core.Path.{_≡_};
 ghost use Rattle.terms.specs.Terms.{small};
