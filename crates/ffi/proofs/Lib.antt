@@ -2,3 +2,4 @@
 pub mod Ways
 pub mod Kept
 pub mod Only
+pub mod Short

@@ -5,9 +5,10 @@
 -- than 3 stays.
 -- Not here: listings (crate exchange), the register's calls (crate register), where words lie (crate packing).
 -- Assumes nothing.
-use Prim.Native.Nat.{ℕ}
+use Prim.Native.Nat.{ℕ, _<_}
+use mathlib.Core.Path.{_≡_}
 use mathlib.Core.List.{List}
-use mathlib.Core.Bool.{Bool, cond, _&&_}
+use mathlib.Core.Bool.{Bool, true, cond, _&&_}
 use lib.ListN.{length}
 use lib.Dec.{ltb, eqb}
 use Rattle.terms.specs.Terms.{refusalNumber}
@@ -21,11 +22,12 @@ use Rattle.register.specs.declared.Started.{Started}
 use Rattle.register.specs.declared.Opened.{Opened}
 use Rattle.register.specs.Register.{fits, Fresh, opened, freshOf, startOf, stepOf}
 use Rattle.encoding.specs.declared.Decoded.{Decoded}
+use Rattle.encoding.specs.declared.PhaseWords.{PhaseWords}
 use Rattle.encoding.specs.Encoding.{encode, opFrom, decode}
 use Rattle.packing.specs.declared.Reply.{Reply}
 use Rattle.packing.specs.Packing.{countersAt, putCounters, recordAt, putRecord, freshWords, refusedBy, replyOf}
 use Rattle.exchange.specs.Exchange.{wordsRoom, Told, told, Left, left, stays}
-use Rattle.packing.specs.Packing.{numberOf, putReply}
+use Rattle.packing.specs.Packing.{putPhase, numberOf, putReply}
 
 -- ---- the slices' lengths: two tables of the size, three counters and sixteen records of nine words, three words of
 -- answer
@@ -36,6 +38,10 @@ lengthsFit z ns es ws = fits z ns es && eqb (length ws) wordsRoom
 abbrev pub checked : {A : Type 0} → Size → List ℕ → List ℕ → List ℕ → List ℕ → ℕ → A → (ℕ → A) → A → A
 checked z ns es ws out who silent refused goes =
     cond (eqb (length out) 3) (cond (lengthsFit z ns es ws) (cond (ltb who 16) goes (refused 1)) (refused 7)) silent
+
+-- what has passed these checks
+abbrev pub admitted : Size → List ℕ → List ℕ → List ℕ → ℕ → Type 0
+admitted z ns es ws who = (lengthsFit z ns es ws ≡ true) × (who < 16)
 
 -- then, words that are no record's
 abbrev pub onDecoded : {A : Type 0} → Decoded → (Session → A) → A → A
@@ -89,6 +95,10 @@ unfoldable pub startCall : Size → List ℕ → List ℕ → List ℕ → List 
 startCall z ns es ws out who kind first second =
     checked z ns es ws out who (heard ws out 7) (deaf ws out)
     (startSession z ns es ws out who (opFrom kind first second))
+
+-- the words with another phase of one session, the answer with another reply, and no refusal
+abbrev pub went : List ℕ → List ℕ → ℕ → PhaseWords → Reply → Heard
+went ws out who p r = heard (putPhase ws who p) (putReply out r) 0
 
 -- ---- step: both tables, the words, the answer and the number returned
 abbrev pub afterStep : List ℕ → List ℕ → ℕ → Done → Left

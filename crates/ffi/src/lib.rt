@@ -19,13 +19,18 @@ ghost use Rattle.ffi.specs.Ffi.{
   startSession,
   startCall,
   stepRecord,
+  went,
+  admitted,
   stepSession,
   stepCall,
 };
 ghost use Rattle.listing.specs.Listing.{keyRoom};
 ghost use Rattle.exchange.specs.Exchange.{told, left, wrote, writeCall, readCall};
 use encoding::Decoded;
+use encoding::PhaseWords;
+use packing::Reply;
 use register::Opened;
+use shortly::Short;
 use steps::Session;
 use terms::Answer;
 use terms::Counters;
@@ -196,6 +201,73 @@ fn step_session(
     }
 }
 
+// Puts what a short way tells. No short way ends in a refusal.
+fn go(words: &mut [u32], answer: &mut [u32], who: u32, phase: PhaseWords, reply: Reply) -> u32
+    ensures { λ r. ⌜ heard (now (words .exit)) (now (answer .exit)) r
+        ≡ went (now (words .entry)) (now (answer .entry)) who phase reply ⌝ }
+{
+    packing::put_phase(words, who, phase);
+    packing::put_reply(answer, reply);
+    0
+}
+
+fn step_walking(
+    nodes: &mut [u32],
+    entries: &mut [u32],
+    words: &mut [u32],
+    answer: &mut [u32],
+    who: u32,
+) -> u32
+    requires { ⌜ admitted small (now nodes) (now entries) (now words) who ⌝ }
+    ensures { λ r. ⌜ left (now (nodes .exit)) (now (entries .exit)) (now (words .exit)) (now (answer .exit)) r
+        ≡ stepSession small (now (nodes .entry)) (now (entries .entry)) (now (words .entry)) (now (answer .entry))
+        who ⌝ }
+{
+    let w = packing::record_at(words, who);
+    match shortly::walk(nodes, w) {
+        Short::Goes(phase, reply) => go(words, answer, who, phase, reply),
+        Short::Long => step_session(nodes, entries, words, answer, who),
+    }
+}
+
+fn step_ranging(
+    nodes: &mut [u32],
+    entries: &mut [u32],
+    words: &mut [u32],
+    answer: &mut [u32],
+    who: u32,
+) -> u32
+    requires { ⌜ admitted small (now nodes) (now entries) (now words) who ⌝ }
+    ensures { λ r. ⌜ left (now (nodes .exit)) (now (entries .exit)) (now (words .exit)) (now (answer .exit)) r
+        ≡ stepSession small (now (nodes .entry)) (now (entries .entry)) (now (words .entry)) (now (answer .entry))
+        who ⌝ }
+{
+    let w = packing::record_at(words, who);
+    match shortly::range(nodes, entries, w) {
+        Short::Goes(phase, reply) => go(words, answer, who, phase, reply),
+        Short::Long => step_session(nodes, entries, words, answer, who),
+    }
+}
+
+// By a short way where one leads: nearly all steps are a walk's or a range's.
+fn step_shortly(
+    nodes: &mut [u32],
+    entries: &mut [u32],
+    words: &mut [u32],
+    answer: &mut [u32],
+    who: u32,
+) -> u32
+    requires { ⌜ admitted small (now nodes) (now entries) (now words) who ⌝ }
+    ensures { λ r. ⌜ left (now (nodes .exit)) (now (entries .exit)) (now (words .exit)) (now (answer .exit)) r
+        ≡ stepSession small (now (nodes .entry)) (now (entries .entry)) (now (words .entry)) (now (answer .entry))
+        who ⌝ }
+{
+    if packing::phase_number(words, who) == 1 {
+        return step_walking(nodes, entries, words, answer, who);
+    }
+    step_ranging(nodes, entries, words, answer, who)
+}
+
 #[no_mangle]
 pub extern "C" fn ravencrumb_step(
     nodes: &mut [u32],
@@ -213,7 +285,7 @@ pub extern "C" fn ravencrumb_step(
             if 16 <= who {
                 return refuse(answer, 1);
             }
-            return step_session(nodes, entries, words, answer, who);
+            return step_shortly(nodes, entries, words, answer, who);
         }
         return refuse(answer, 7);
     }
