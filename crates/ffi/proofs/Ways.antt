@@ -43,9 +43,6 @@ module _ (ns es ws : List ℕ) where
   unfolding lengthsFit fits
   fit-nodes-not h = rw (ne-eqb _ _ h)
 
-  pub fits-told : (b : Bool) → b ≡ lengthsFit small ns es ws → b ≡ true → lengthsFit small ns es ws ≡ true
-  fits-told b test h = cc
-
 pub ruleset lengths = (fit-words, fit-entries-not, fit-nodes-not)
 
 -- ---- a refusal

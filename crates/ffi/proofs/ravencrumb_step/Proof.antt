@@ -1,5 +1,5 @@
 -- `ffi::ravencrumb_step` meets its contract: each way out is a law of proofs/Ways.antt. Assumes nothing.
-use Rattle.ffi.proofs.Ways.{fits-told, step-silent, step-lengths, step-session, step-goes}
+use Rattle.ffi.proofs.Ways.{step-silent, step-lengths, step-session, step-goes}
 use borrow.Author.Needs.{needs}
 use Rattle.ffi.proofs.ravencrumb_step.Statement.{statement}
 use Rattle.ffi.proofs.ravencrumb_step.Tie as tie
@@ -15,7 +15,7 @@ ravencrumb-step-spec =
     (λ c. search needs)
     (λ c. search needs)
     (λ c. search step-session)
-    (λ c κs. search (fits-told, needs))
+    (λ c κs. ((cc), search needs))
     (λ c. search needs)
     (λ c. search needs)
     (λ c. search needs)
