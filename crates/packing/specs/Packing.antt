@@ -56,6 +56,10 @@ putBack ws who w = storeOf 9 (storeOf 9 (storeOf 9 ws who 9 (w .c)) who 10 (w .d
 abbrev pub putPhase : List ℕ → ℕ → PhaseWords → List ℕ
 putPhase ws who w = putBack (putFront ws who w) who w
 
+-- two words of a record, at the places j and k
+abbrev pub putTwo : List ℕ → ℕ → ℕ → ℕ → ℕ → ℕ → List ℕ
+putTwo ws who j x k y = storeOf 9 (storeOf 9 ws who j x) who k y
+
 abbrev pub putRecord : List ℕ → ℕ → Words → List ℕ
 putRecord ws who w = putPhase (putOp ws who (w .op)) who (w .phase)
 

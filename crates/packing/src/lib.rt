@@ -14,6 +14,7 @@ ghost use Rattle.packing.specs.Packing.{
   putFront,
   putBack,
   putPhase,
+  putTwo,
   putRecord,
   freshWords,
   refusedBy,
@@ -27,6 +28,15 @@ use encoding::Words;
 use terms::Answer;
 use terms::Counters;
 use terms::Refusal;
+
+// Where the phase and its first three numbers stand in a record.
+pub const PHASE: u32 = 6;
+
+pub const A: u32 = 7;
+
+pub const B: u32 = 8;
+
+pub const C: u32 = 9;
 
 // An answer's name and values, as numbers.
 pub struct Reply {
@@ -103,11 +113,19 @@ fn put_back(words: &mut [u32], who: u32, w: PhaseWords)
     table::store(words, 9, who, 11, w.e);
 }
 
-pub fn put_phase(words: &mut [u32], who: u32, w: PhaseWords)
+fn put_phase(words: &mut [u32], who: u32, w: PhaseWords)
     ensures { λ _. ⌜ now (words .exit) ≡ putPhase (now (words .entry)) who w ⌝ }
 {
     put_front(words, who, w);
     put_back(words, who, w);
+}
+
+// Two words of a record, where a step leaves the others as they are.
+pub fn put_two(words: &mut [u32], who: u32, j: u32, x: u32, k: u32, y: u32)
+    ensures { λ _. ⌜ now (words .exit) ≡ putTwo (now (words .entry)) who j x k y ⌝ }
+{
+    table::store(words, 9, who, j, x);
+    table::store(words, 9, who, k, y);
 }
 
 pub fn put_record(words: &mut [u32], who: u32, w: Words)
