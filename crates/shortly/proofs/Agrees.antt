@@ -1,6 +1,6 @@
 -- What a short way tells is the outcome of the step of the record that the words stand for.
--- In order: what it is to agree; the record; Walk; Follow; Hand; the two calls.
--- Not here: that storing a phase's words stores the record (crate ffi). Assumes nothing.
+-- In order: the phase that the words say; Walk; Follow; Hand; the two calls.
+-- Not here: that storing the words that change stores the record (crate ffi). Assumes nothing.
 use Prim.Native.Nat.{ℕ, _+_, _≤_, _<_}
 use mathlib.Core.Path.{_≡_, refl, sym, ap, _∙_}
 use mathlib.Core.List.{List}
@@ -17,37 +17,23 @@ use Rattle.terms.specs.declared.Counters.{Counters}
 use Rattle.terms.specs.declared.Op.{Op}
 use Rattle.terms.specs.declared.Answer.{Answer}
 use Rattle.steps.specs.declared.Phase.{Phase}
-use Rattle.steps.specs.declared.Session.{Session}
-use Rattle.steps.specs.Steps.{done, busyOf, underWay, gives, works, rangeSees, actStep}
+use Rattle.steps.specs.Steps.{done, underWay, gives, works, rangeSees, actStep}
 use Rattle.reading.proofs.Ways.{walk-on, range-on, range-in, follow-leads, hands}
 use Rattle.encoding.specs.declared.PhaseWords.{PhaseWords}
 use Rattle.encoding.specs.declared.Words.{Words}
 use Rattle.encoding.specs.declared.Decoded.{Decoded}
-use Rattle.encoding.specs.Encoding.{phaseWith, phaseWords, opFrom, phaseFrom, sessionFrom, opRight}
-use Rattle.encoding.specs.Encoding.{frontRight, backRight, decode}
+use Rattle.encoding.specs.Encoding.{phaseWords, phaseFrom, sessionFrom, opRight, decode}
 use Rattle.encoding.proofs.Ways.{is-walk, is-follow, is-hand, is-walking, is-reading, is-range, right-range}
 use Rattle.encoding.proofs.Ways.{front-all, front-last, back-walks, back-last}
-use Rattle.encoding.proofs.Trip.{right-decodes}
-use Rattle.packing.specs.declared.Reply.{Reply}
+use Rattle.encoding.proofs.Trip.{three-same, right-decodes}
 use Rattle.packing.specs.Packing.{replyWith, replyOf, numberOf}
-use Rattle.shortly.specs.declared.Short.{Short}
-use Rattle.shortly.specs.Shortly.{movesOn, named, walkShortly, seesShortly, onTaken, followShortly}
-use Rattle.shortly.specs.Shortly.{handShortly, walkZeros, rangeZeros, rangeShortly}
+use Rattle.shortly.specs.declared.Walked.{Walked}
+use Rattle.shortly.specs.declared.Ranged.{Ranged}
+use Rattle.shortly.specs.Shortly.{movesOn, named, walkZeros, walkShortly, seesShortly, onTaken, followShortly}
+use Rattle.shortly.specs.Shortly.{handShortly, rangeZeros, rangeShortly}
+use Rattle.shortly.specs.Told.{Agrees, movedTo, ledTo, handedOut, WalkTold, RangeTold}
 
--- ---- the words are a record's, under way; its step leaves the tables, the counters and the operation, leads to the
--- phase with these words, and answers with this reply, which is no refusal
-pub record Agrees (z : Size) (ns es : List ℕ) (w : Words) (p : PhaseWords) (r : Reply) : Type 0 where
-  pub phase : Phase
-  pub answer : Answer
-  pub read : decode w ≡ Decoded.Record (sessionFrom w)
-  pub busy : busyOf (sessionFrom w) ≡ true
-  pub acts : (c : Counters) (who : ℕ)
-      → actStep z ns es c who (named w) (phaseFrom (w .phase)) ≡ done ns es (gives c (named w) phase answer)
-  pub words : phaseWords phase ≡ p
-  pub reply : replyOf answer ≡ r
-  pub number : numberOf r ≡ 0
-
--- ---- the record
+-- ---- the phase that the words say
 module _ (w : PhaseWords) where
   walk-phase : w .phase ≡ 1 → Phase.Walk (w .a) (w .b) ≡ phaseFrom w
   walk-phase one = is-walking w _ (omega arith) (omega arith) (is-walk _ _ _ one)
@@ -61,37 +47,40 @@ module _ (w : PhaseWords) where
       (is-hand _ _ _ _ (omega arith) (omega arith) (omega arith))
 
 module _ (z : Size) (ns es : List ℕ) (w : Words) where
-  -- from the phase that the words say, the phase after it and the answer
-  agrees : (here phase : Phase) (a : Answer) → decode w ≡ Decoded.Record (sessionFrom w) → here ≡ phaseFrom (w .phase)
-      → namesOf (named w) ≡ true → underWay here ≡ true → numberOf (replyOf a) ≡ 0
+  -- from the phase that the words say, the phase after it with its words, and the answer
+  agrees : (here phase : Phase) (a : Answer) (p : PhaseWords) → decode w ≡ Decoded.Record (sessionFrom w)
+      → here ≡ phaseFrom (w .phase) → namesOf (named w) ≡ true → underWay here ≡ true → phaseWords phase ≡ p
+      → numberOf (replyOf a) ≡ 0
       → ((c : Counters) (who : ℕ) → actStep z ns es c who (named w) here ≡ done ns es (gives c (named w) phase a))
-      → Agrees z ns es w (phaseWords phase) (replyOf a)
-  agrees here phase a read at names way number acts =
+      → Agrees z ns es w p (replyOf a)
+  agrees here phase a p read at names way words number acts =
       record {
         phase = phase;
         answer = a;
         read = read;
         busy = rw (← at, names, way);
         acts = λ c who. rw (← at) (acts c who);
-        words = refl;
+        words = words;
         reply = refl;
         number = number;
       }
 
   -- ---- Walk
-  module _ (one : w .phase .phase ≡ 1) (unused : walkZeros w ≡ true)
-      (right : opRight (w .op) ≡ true) where
+  module _ (one : w .phase .phase ≡ 1) (unused : walkZeros w ≡ true) (right : opRight (w .op) ≡ true) where
     walk-read : decode w ≡ Decoded.Record (sessionFrom w)
     walk-read =
         right-decodes w right (sym (front-all (w .phase) (omega arith) (omega arith)))
         (sym (back-walks (w .phase) true (omega arith) (sym unused)))
 
+    walk-words : (n : ℕ) → phaseWords (Phase.Walk (w .phase .b) n) ≡ movedTo (w .phase) n
+    walk-words n = let zeros = three-same _ _ _ _ _ _ unused in cc
+
     walk-agrees : namesOf (named w) ≡ true → w .phase .b < z .nodes → keyAt ns (w .phase .b) < soughtOf (named w)
-        → Agrees z ns es w (phaseWith 1 (w .phase .b) (nextAt ns (w .phase .b)) 0 0 0) (replyWith 2 0 0)
+        → Agrees z ns es w (movedTo (w .phase) (nextAt ns (w .phase .b))) (replyWith 2 0 0)
     unfolding numberOf
     walk-agrees names in-table below =
         agrees (Phase.Walk (w .phase .a) (w .phase .b)) (Phase.Walk (w .phase .b) (nextAt ns (w .phase .b)))
-        Answer.Working walk-read (walk-phase (w .phase) one) names refl refl
+        Answer.Working _ walk-read (walk-phase (w .phase) one) names refl (walk-words _) refl
         (λ c who. ap (done ns es) (sym (walk-on _ _ _ _ _ _ _ _ _ _ in-table refl refl below refl refl)))
 
   -- ---- Follow and Hand
@@ -107,94 +96,97 @@ module _ (z : Size) (ns es : List ℕ) (w : Words) where
     module _ (to : ℕ) (follows : w .phase .phase ≡ 11) (in-table : w .phase .a < z .nodes)
         (link : Read.Take to ≡ atOf (z .entries) es (newestAt ns (w .phase .a)) (w .phase .b)) (known : to < z .nodes)
       where
-        leads-agrees : (then : Phase)
+        leads-agrees : (then : Phase) (p : PhaseWords) → phaseWords then ≡ p
             → ((c : Counters)
             → works c (named w) then ≡ rangeSees z ns c (named w) (w .phase .a) (w .phase .b) (w .phase .c) to)
-            → Agrees z ns es w (phaseWords then) (replyWith 2 0 0)
+            → Agrees z ns es w p (replyWith 2 0 0)
         unfolding numberOf
-        leads-agrees then sees =
-            agrees (Phase.Follow (w .phase .a) (w .phase .b) (w .phase .c)) then Answer.Working
-            (range-read (omega arith) (omega arith)) (follow-phase (w .phase) follows) (rw (← range-named)) refl refl
+        leads-agrees then p words sees =
+            agrees (Phase.Follow (w .phase .a) (w .phase .b) (w .phase .c)) then Answer.Working p
+            (range-read (omega arith) (omega arith)) (follow-phase (w .phase) follows) (rw (← range-named)) refl words
+            refl
             (λ c who. ap (done ns es)
             (sym (follow-leads _ _ _ _ _ _ _ _ _ _ _ in-table refl link to refl (sees c))))
 
-        on-agrees : keyAt ns to < w .op .first
-            → Agrees z ns es w (phaseWith 11 to (w .phase .b) (w .phase .c) 0 0) (replyWith 2 0 0)
+        on-agrees : keyAt ns to < w .op .first → Agrees z ns es w (ledTo (w .phase) 11 to) (replyWith 2 0 0)
         on-agrees below =
-            leads-agrees (Phase.Follow to (w .phase .b) (w .phase .c))
+            let zeros = three-same _ _ _ _ _ _ unused in
+            leads-agrees (Phase.Follow to (w .phase .b) (w .phase .c)) _ (cc)
             (λ c. range-on _ _ _ _ _ _ _ _ _ _ _ known refl (ap soughtOf range-named) below refl)
 
         key-agrees : w .op .first ≤ keyAt ns to → keyAt ns to ≤ w .op .second
-            → Agrees z ns es w (phaseWith 12 to (w .phase .b) (w .phase .c) 0 0) (replyWith 2 0 0)
+            → Agrees z ns es w (ledTo (w .phase) 12 to) (replyWith 2 0 0)
         key-agrees reached within =
-            leads-agrees (Phase.Hand to (w .phase .b) (w .phase .c))
+            let zeros = three-same _ _ _ _ _ _ unused in
+            leads-agrees (Phase.Hand to (w .phase .b) (w .phase .c)) _ (cc)
             (λ c. range-in _ _ _ _ _ _ _ _ _ _ _ known refl (ap soughtOf range-named) _ reached
             (ap highOf range-named) within refl)
 
     hand-agrees : w .phase .phase ≡ 12 → w .phase .a < z .nodes → w .phase .c < z .keys
-        → Agrees z ns es w (phaseWith 11 (w .phase .a) (w .phase .b) (w .phase .c + 1) 0 0)
+        → Agrees z ns es w (handedOut (w .phase) (w .phase .c + 1))
         (replyWith 4 (keyAt ns (w .phase .a)) (valueAt ns (w .phase .a)))
     unfolding numberOf
     hand-agrees h in-table few =
+        let zeros = three-same _ _ _ _ _ _ unused in
         agrees (Phase.Hand (w .phase .a) (w .phase .b) (w .phase .c))
         (Phase.Follow (w .phase .a) (w .phase .b) (w .phase .c + 1))
-        (Answer.Key (keyAt ns (w .phase .a)) (valueAt ns (w .phase .a))) (range-read (omega arith) (omega arith))
-        (hand-phase (w .phase) h) (rw (← range-named)) refl refl
+        (Answer.Key (keyAt ns (w .phase .a)) (valueAt ns (w .phase .a))) _ (range-read (omega arith) (omega arith))
+        (hand-phase (w .phase) h) (rw (← range-named)) refl (cc) refl
         (λ c who. ap (done ns es) (sym (hands _ _ _ _ _ _ _ _ _ _ in-table few refl refl refl)))
 
--- ---- the two calls: every way out is Long, or agrees
-module _ (z : Size) (ns es : List ℕ) (w : Words) (p : PhaseWords) (r : Reply) where
-  abbrev Fine : Short → Type 0
-  Fine x = x ≡ Short.Goes p r → Agrees z ns es w p r
+  -- ---- the two calls: every way out is Long, or agrees
+  abbrev Walks : Walked → Type 0
+  Walks = WalkTold z ns es w
 
-  long : Fine Short.Long
-  long h = let z : _≡_ {A = ℕ} 0 1 = cc in absurd (omega arith)
+  walk-held : (t : Bool) (x : Walked) → (t ≡ true → Walks x) → Walks (cond t x Walked.Long)
+  walk-held t x f = cond-cases Walks t x Walked.Long f (λ _. tt)
 
-  held : (t : Bool) (x : Short) → (t ≡ true → Fine x) → Fine (cond t x Short.Long)
-  held t x f = cond-cases Fine t x Short.Long f (λ _. long)
-
-  told : (q : PhaseWords) (y : Reply) → Agrees z ns es w q y → Fine (Short.Goes q y)
-  told q y g h = let e : p ≡ q = cc in let f : r ≡ y = cc in rw (e, f) g
-
-  pub walk-is-step : walkShortly z ns w ≡ Short.Goes p r → Agrees z ns es w p r
+  pub walk-is-step : WalkTold z ns es w (walkShortly z ns w)
   unfolding walkShortly movesOn
   walk-is-step =
-      held _ _ (λ one. held _ _ (λ unused. held _ _ (λ right. held _ _ (λ names. held _ _ (λ known. held _ _ (λ below.
-      told _ _
-      (walk-agrees z ns es w (eqb-true _ _ one) unused right names (ltb-true _ _ known) (ltb-true _ _ below))))))))
+      walk-held _ _ (λ one. walk-held _ _ (λ unused. walk-held _ _ (λ right. walk-held _ _ (λ names.
+      walk-held _ _ (λ known. walk-held _ _ (λ below.
+      walk-agrees (eqb-true _ _ one) unused right names (ltb-true _ _ known) (ltb-true _ _ below)))))))
+
+  abbrev Ranges : Ranged → Type 0
+  Ranges = RangeTold z ns es w
+
+  range-held : (t : Bool) (x : Ranged) → (t ≡ true → Ranges x) → Ranges (cond t x Ranged.Long)
+  range-held t x f = cond-cases Ranges t x Ranged.Long f (λ _. tt)
 
   module _ (four : w .op .kind ≡ 4) (unused : rangeZeros w ≡ true) where
-    sees-fine : (to : ℕ) → w .phase .phase ≡ 11 → w .phase .a < z .nodes
-        → atOf (z .entries) es (newestAt ns (w .phase .a)) (w .phase .b) ≡ Read.Take to
-        → Fine (seesShortly z ns (w .op .first) (w .op .second) (w .phase .b) (w .phase .c) to)
-    unfolding seesShortly
-    sees-fine to follows in-table link =
-        held _ _ (λ known.
-        let on = on-agrees z ns es w four unused to follows in-table (sym link) (ltb-true _ _ known) in
-        let key = key-agrees z ns es w four unused to follows in-table (sym link) (ltb-true _ _ known) in
-        ltb-cases Fine (keyAt ns to) (w .op .first) _ _ (λ below. told _ _ (on below))
-        (λ reached. held _ _ (λ within. told _ _ (key reached (leb-true _ _ within)))))
+    module _ (follows : w .phase .phase ≡ 11) (in-table : w .phase .a < z .nodes) where
+      sees-told : (to : ℕ) → atOf (z .entries) es (newestAt ns (w .phase .a)) (w .phase .b) ≡ Read.Take to
+          → Ranges (seesShortly z ns (w .op .first) (w .op .second) to)
+      unfolding seesShortly
+      sees-told to link =
+          range-held _ _ (λ known.
+          ltb-cases Ranges (keyAt ns to) (w .op .first) _ _
+          (on-agrees four unused to follows in-table (sym link) (ltb-true _ _ known))
+          (λ reached. range-held _ _ (λ within.
+          key-agrees four unused to follows in-table (sym link) (ltb-true _ _ known) reached
+          (leb-true _ _ within))))
 
-    read-fine : (o : Read) → w .phase .phase ≡ 11 → w .phase .a < z .nodes
-        → atOf (z .entries) es (newestAt ns (w .phase .a)) (w .phase .b) ≡ o
-        → Fine (onTaken o (seesShortly z ns (w .op .first) (w .op .second) (w .phase .b) (w .phase .c)))
-    read-fine Read.Wait follows in-table link = long
-    read-fine (Read.Take to) follows in-table link = sees-fine to follows in-table link
-    read-fine Read.Damaged follows in-table link = long
+      read-told : (o : Read) → atOf (z .entries) es (newestAt ns (w .phase .a)) (w .phase .b) ≡ o
+          → Ranges (onTaken o (seesShortly z ns (w .op .first) (w .op .second)))
+      read-told Read.Wait link = tt
+      read-told (Read.Take to) link = sees-told to link
+      read-told Read.Damaged link = tt
 
-    follow-fine : w .phase .phase ≡ 11
-        → Fine (followShortly z ns es (w .op .first) (w .op .second) (w .phase .a) (w .phase .b) (w .phase .c))
+    follow-told : w .phase .phase ≡ 11
+        → Ranges (followShortly z ns es (w .op .first) (w .op .second) (w .phase .a) (w .phase .b))
     unfolding followShortly
-    follow-fine follows = held _ _ (λ in-table. read-fine _ follows (ltb-true _ _ in-table) refl)
+    follow-told follows = range-held _ _ (λ in-table. read-told follows (ltb-true _ _ in-table) _ refl)
 
-    hand-fine : w .phase .phase ≡ 12 → Fine (handShortly z ns (w .phase .a) (w .phase .b) (w .phase .c))
+    hand-told : w .phase .phase ≡ 12 → Ranges (handShortly z ns (w .phase .a) (w .phase .c))
     unfolding handShortly
-    hand-fine hands = held _ _ (λ in-table. held _ _ (λ few.
-        told _ _ (hand-agrees z ns es w four unused hands (ltb-true _ _ in-table) (ltb-true _ _ few))))
+    hand-told hands =
+        range-held _ _ (λ in-table. range-held _ _ (λ few.
+        hand-agrees four unused hands (ltb-true _ _ in-table) (ltb-true _ _ few)))
 
-  pub range-is-step : rangeShortly z ns es w ≡ Short.Goes p r → Agrees z ns es w p r
+  pub range-is-step : RangeTold z ns es w (rangeShortly z ns es w)
   unfolding rangeShortly
   range-is-step =
-      held _ _ (λ four. held _ _ (λ unused.
-      eqb-cases Fine (w .phase .phase) 11 _ _ (follow-fine (eqb-true _ _ four) unused)
-      (λ _. held _ _ (λ hands. hand-fine (eqb-true _ _ four) unused (eqb-true _ _ hands)))))
+      range-held _ _ (λ four. range-held _ _ (λ unused.
+      eqb-cases Ranges (w .phase .phase) 11 _ _ (follow-told (eqb-true _ _ four) unused)
+      (λ _. range-held _ _ (λ hands. hand-told (eqb-true _ _ four) unused (eqb-true _ _ hands)))))

@@ -1,7 +1,6 @@
 -- The short ways of a step: what is tested of a record's words and of the tables, and what the step then leads to.
 -- In order: Walk that moves on; Follow that goes on or meets a key; Hand; a range's two. `z` is the size, `ns` and
--- `es` are the tables, `w` a record's words. A way tells the words of the next phase and the answer's (names: 2
--- working, 4 key); Long where a test fails.
+-- `es` are the tables, `w` a record's words. A way tells what changes (crate source); Long where a test fails.
 -- Not here: that this is the step (proofs/Agrees.antt). Assumes nothing.
 use Prim.Native.Nat.{ℕ, _+_}
 use mathlib.Core.List.{List}
@@ -14,18 +13,16 @@ use Rattle.terms.specs.Terms.{soughtOf, namesOf}
 use Rattle.terms.specs.declared.Size.{Size}
 use Rattle.terms.specs.declared.Op.{Op}
 use Rattle.encoding.specs.declared.Words.{Words}
-use Rattle.encoding.specs.Encoding.{phaseWith, opFrom, sameThree, opRight}
-use Rattle.packing.specs.Packing.{replyWith}
-use Rattle.shortly.specs.declared.Short.{Short}
+use Rattle.encoding.specs.Encoding.{opFrom, sameThree, opRight}
+use Rattle.shortly.specs.declared.Walked.{Walked}
+use Rattle.shortly.specs.declared.Ranged.{Ranged}
 
 -- ---- Walk that moves on
-unfoldable pub movesOn : Size → List ℕ → Op → ℕ → Short
+unfoldable pub movesOn : Size → List ℕ → Op → ℕ → Walked
 movesOn z ns op curr =
     cond (ltb curr (z .nodes))
-    (cond (ltb (keyAt ns curr) (soughtOf op))
-    (Short.Goes (phaseWith 1 curr (nextAt ns curr) 0 0 0) (replyWith 2 0 0))
-    Short.Long)
-    Short.Long
+    (cond (ltb (keyAt ns curr) (soughtOf op)) (Walked.On (nextAt ns curr)) Walked.Long)
+    Walked.Long
 
 abbrev pub named : Words → Op
 named w = opFrom (w .op .kind) (w .op .first) (w .op .second)
@@ -34,55 +31,53 @@ named w = opFrom (w .op .kind) (w .op .first) (w .op .second)
 abbrev pub walkZeros : Words → Bool
 walkZeros w = sameThree (w .phase .c) (w .phase .d) (w .phase .e) 0 0 0
 
-unfoldable pub walkShortly : Size → List ℕ → Words → Short
+unfoldable pub walkShortly : Size → List ℕ → Words → Walked
 walkShortly z ns w =
     cond (eqb (w .phase .phase) 1)
     (cond (walkZeros w)
     (cond (opRight (w .op))
-    (cond (namesOf (named w)) (movesOn z ns (named w) (w .phase .b)) Short.Long)
-    Short.Long)
-    Short.Long)
-    Short.Long
+    (cond (namesOf (named w)) (movesOn z ns (named w) (w .phase .b)) Walked.Long)
+    Walked.Long)
+    Walked.Long)
+    Walked.Long
 
 -- ---- Follow of a range from low to high, which goes on or meets a key
-unfoldable pub seesShortly : Size → List ℕ → ℕ → ℕ → ℕ → ℕ → ℕ → Short
-seesShortly z ns low high snapshot handed to =
+unfoldable pub seesShortly : Size → List ℕ → ℕ → ℕ → ℕ → Ranged
+seesShortly z ns low high to =
     cond (ltb to (z .nodes))
     (cond (ltb (keyAt ns to) low)
-    (Short.Goes (phaseWith 11 to snapshot handed 0 0) (replyWith 2 0 0))
-    (cond (leb (keyAt ns to) high) (Short.Goes (phaseWith 12 to snapshot handed 0 0) (replyWith 2 0 0)) Short.Long))
-    Short.Long
+    (Ranged.Leads 11 to)
+    (cond (leb (keyAt ns to) high) (Ranged.Leads 12 to) Ranged.Long))
+    Ranged.Long
 
-abbrev pub onTaken : Read → (ℕ → Short) → Short
-onTaken Read.Wait next = Short.Long
+abbrev pub onTaken : Read → (ℕ → Ranged) → Ranged
+onTaken Read.Wait next = Ranged.Long
 onTaken (Read.Take to) next = next to
-onTaken Read.Damaged next = Short.Long
+onTaken Read.Damaged next = Ranged.Long
 
-unfoldable pub followShortly : Size → List ℕ → List ℕ → ℕ → ℕ → ℕ → ℕ → ℕ → Short
-followShortly z ns es low high at snapshot handed =
+unfoldable pub followShortly : Size → List ℕ → List ℕ → ℕ → ℕ → ℕ → ℕ → Ranged
+followShortly z ns es low high at snapshot =
     cond (ltb at (z .nodes))
-    (onTaken (atOf (z .entries) es (newestAt ns at) snapshot) (seesShortly z ns low high snapshot handed))
-    Short.Long
+    (onTaken (atOf (z .entries) es (newestAt ns at) snapshot) (seesShortly z ns low high))
+    Ranged.Long
 
 -- ---- Hand
-unfoldable pub handShortly : Size → List ℕ → ℕ → ℕ → ℕ → Short
-handShortly z ns at snapshot handed =
+unfoldable pub handShortly : Size → List ℕ → ℕ → ℕ → Ranged
+handShortly z ns at handed =
     cond (ltb at (z .nodes))
-    (cond (ltb handed (z .keys))
-    (Short.Goes (phaseWith 11 at snapshot (handed + 1) 0 0) (replyWith 4 (keyAt ns at) (valueAt ns at)))
-    Short.Long)
-    Short.Long
+    (cond (ltb handed (z .keys)) (Ranged.Hands (handed + 1) (keyAt ns at) (valueAt ns at)) Ranged.Long)
+    Ranged.Long
 
 -- ---- a range's two, by the phase; the words that they do not use are 0
 abbrev pub rangeZeros : Words → Bool
 rangeZeros w = sameThree 0 (w .phase .d) (w .phase .e) 0 0 0
 
-unfoldable pub rangeShortly : Size → List ℕ → List ℕ → Words → Short
+unfoldable pub rangeShortly : Size → List ℕ → List ℕ → Words → Ranged
 rangeShortly z ns es w =
     cond (eqb (w .op .kind) 4)
     (cond (rangeZeros w)
     (cond (eqb (w .phase .phase) 11)
-    (followShortly z ns es (w .op .first) (w .op .second) (w .phase .a) (w .phase .b) (w .phase .c))
-    (cond (eqb (w .phase .phase) 12) (handShortly z ns (w .phase .a) (w .phase .b) (w .phase .c)) Short.Long))
-    Short.Long)
-    Short.Long
+    (followShortly z ns es (w .op .first) (w .op .second) (w .phase .a) (w .phase .b))
+    (cond (eqb (w .phase .phase) 12) (handShortly z ns (w .phase .a) (w .phase .c)) Ranged.Long))
+    Ranged.Long)
+    Ranged.Long

@@ -1,9 +1,9 @@
 // The short ways of a step: what nearly every step of a walk and of a range does, told from a record's nine words
 // without decoding them.
 // In order: what a short way tells; Walk that moves on; Follow that goes on or meets a key; Hand; a range's two. A
-// short way tells the words of the phase that the step leads to, and the answer; it tests all that it needs, and where
-// a test fails it says Long: the step is then the register's, on the record decoded. proofs/Agrees.antt has that what
-// a short way tells is that step's outcome. Nothing is written here.
+// short way tests all that it needs, of the words and of the tables, and tells what changes; where a test fails it
+// says Long: the step is then the register's, on the record decoded. proofs/Agrees.antt has that what a short way
+// tells is that step's outcome. What is told is small, so that compiled code keeps it in registers.
 // Not here: the register's step (crate register), storing the words and the answer (crate ffi). Assumes nothing.
 ghost use mathlib.Core.Path.{_≡_};
 ghost use Rattle.terms.specs.Terms.{small};
@@ -16,48 +16,41 @@ ghost use Rattle.shortly.specs.Shortly.{
   rangeShortly,
 };
 use bundle::Read;
-use encoding::PhaseWords;
 use encoding::Words;
 use nodes::KEY;
 use nodes::NEWEST;
 use nodes::NEXT;
 use nodes::VALUE;
-use packing::Reply;
 use terms::Op;
 
-// The words of the phase that the step leads to, and the answer; or that the long way is to be taken.
-pub enum Short {
-    Goes(PhaseWords, Reply),
+// A walk moves on: curr is pred now, and this node is curr.
+pub enum Walked {
+    On(u32),
     Long,
 }
 
-fn moves_on(nodes: &[u32], op: Op, curr: u32) -> Short
+// A range is led on: the next phase's number, and its node. Or it hands out: how many keys it then has handed out, and
+// the key with its value.
+pub enum Ranged {
+    Leads(u32, u32),
+    Hands(u32, u32, u32),
+    Long,
+}
+
+fn moves_on(nodes: &[u32], op: Op, curr: u32) -> Walked
     ensures { λ r. ⌜ r ≡ movesOn small (now (nodes .entry)) op curr ⌝ }
 {
     if 512 <= curr {
-        return Short::Long;
+        return Walked::Long;
     }
     if nodes::node(nodes, curr, KEY) < terms::sought(op) {
         let next = nodes::node(nodes, curr, NEXT);
-        let phase = PhaseWords {
-            phase: 1,
-            a: curr,
-            b: next,
-            c: 0,
-            d: 0,
-            e: 0,
-        };
-        let reply = Reply {
-            name: 2,
-            first: 0,
-            second: 0,
-        };
-        return Short::Goes(phase, reply);
+        return Walked::On(next);
     }
-    Short::Long
+    Walked::Long
 }
 
-pub fn walk(nodes: &[u32], w: Words) -> Short
+pub fn walk(nodes: &[u32], w: Words) -> Walked
     ensures { λ r. ⌜ r ≡ walkShortly small (now (nodes .entry)) w ⌝ }
 {
     let o = w.op;
@@ -69,104 +62,61 @@ pub fn walk(nodes: &[u32], w: Words) -> Short
                 if terms::names(op) {
                     return moves_on(nodes, op, p.b);
                 }
-                return Short::Long;
+                return Walked::Long;
             }
-            return Short::Long;
+            return Walked::Long;
         }
-        return Short::Long;
+        return Walked::Long;
     }
-    Short::Long
+    Walked::Long
 }
 
 // A range from low to high, at the node that the link at its snapshot leads to.
-fn sees(nodes: &[u32], low: u32, high: u32, snapshot: u32, handed: u32, to: u32) -> Short
-    ensures { λ r. ⌜ r ≡ seesShortly small (now (nodes .entry)) low high snapshot handed to ⌝ }
+fn sees(nodes: &[u32], low: u32, high: u32, to: u32) -> Ranged
+    ensures { λ r. ⌜ r ≡ seesShortly small (now (nodes .entry)) low high to ⌝ }
 {
     if 512 <= to {
-        return Short::Long;
+        return Ranged::Long;
     }
     let key = nodes::node(nodes, to, KEY);
-    let reply = Reply {
-        name: 2,
-        first: 0,
-        second: 0,
-    };
     if key < low {
-        let phase = PhaseWords {
-            phase: 11,
-            a: to,
-            b: snapshot,
-            c: handed,
-            d: 0,
-            e: 0,
-        };
-        return Short::Goes(phase, reply);
+        return Ranged::Leads(11, to);
     }
     if key <= high {
-        let phase = PhaseWords {
-            phase: 12,
-            a: to,
-            b: snapshot,
-            c: handed,
-            d: 0,
-            e: 0,
-        };
-        return Short::Goes(phase, reply);
+        return Ranged::Leads(12, to);
     }
-    Short::Long
+    Ranged::Long
 }
 
-fn follow(
-    nodes: &[u32],
-    entries: &[u32],
-    low: u32,
-    high: u32,
-    at: u32,
-    snapshot: u32,
-    handed: u32,
-) -> Short
-    ensures { λ r. ⌜ r
-        ≡ followShortly small (now (nodes .entry)) (now (entries .entry)) low high at snapshot handed ⌝ }
+fn follow(nodes: &[u32], entries: &[u32], low: u32, high: u32, at: u32, snapshot: u32) -> Ranged
+    ensures { λ r. ⌜ r ≡ followShortly small (now (nodes .entry)) (now (entries .entry)) low high at snapshot ⌝ }
 {
     if 512 <= at {
-        return Short::Long;
+        return Ranged::Long;
     }
     let link = nodes::node(nodes, at, NEWEST);
     match bundle::read_at(entries, 2048, link, snapshot) {
-        Read::Wait => Short::Long,
-        Read::Take(to) => sees(nodes, low, high, snapshot, handed, to),
-        Read::Damaged => Short::Long,
+        Read::Wait => Ranged::Long,
+        Read::Take(to) => sees(nodes, low, high, to),
+        Read::Damaged => Ranged::Long,
     }
 }
 
-fn hand(nodes: &[u32], at: u32, snapshot: u32, handed: u32) -> Short
-    ensures { λ r. ⌜ r ≡ handShortly small (now (nodes .entry)) at snapshot handed ⌝ }
+fn hand(nodes: &[u32], at: u32, handed: u32) -> Ranged
+    ensures { λ r. ⌜ r ≡ handShortly small (now (nodes .entry)) at handed ⌝ }
 {
     if 512 <= at {
-        return Short::Long;
+        return Ranged::Long;
     }
     if 510 <= handed {
-        return Short::Long;
+        return Ranged::Long;
     }
     let key = nodes::node(nodes, at, KEY);
     let value = nodes::node(nodes, at, VALUE);
-    let phase = PhaseWords {
-        phase: 11,
-        a: at,
-        b: snapshot,
-        c: handed + 1,
-        d: 0,
-        e: 0,
-    };
-    let reply = Reply {
-        name: 4,
-        first: key,
-        second: value,
-    };
-    Short::Goes(phase, reply)
+    Ranged::Hands(handed + 1, key, value)
 }
 
-pub fn range(nodes: &[u32], entries: &[u32], w: Words) -> Short
+pub fn range(nodes: &[u32], entries: &[u32], w: Words) -> Ranged
     ensures { λ r. ⌜ r ≡ rangeShortly small (now (nodes .entry)) (now (entries .entry)) w ⌝ }
 {
     let o = w.op;
@@ -174,14 +124,14 @@ pub fn range(nodes: &[u32], entries: &[u32], w: Words) -> Short
     if o.kind == 4 {
         if encoding::all_zero(0, p.d, p.e) {
             if p.phase == 11 {
-                return follow(nodes, entries, o.first, o.second, p.a, p.b, p.c);
+                return follow(nodes, entries, o.first, o.second, p.a, p.b);
             }
             if p.phase == 12 {
-                return hand(nodes, p.a, p.b, p.c);
+                return hand(nodes, p.a, p.c);
             }
-            return Short::Long;
+            return Ranged::Long;
         }
-        return Short::Long;
+        return Ranged::Long;
     }
-    Short::Long
+    Ranged::Long
 }
