@@ -22,12 +22,11 @@ use Rattle.register.specs.declared.Started.{Started}
 use Rattle.register.specs.declared.Opened.{Opened}
 use Rattle.register.specs.Register.{fits, Fresh, opened, freshOf, startOf, stepOf}
 use Rattle.encoding.specs.declared.Decoded.{Decoded}
-use Rattle.encoding.specs.declared.PhaseWords.{PhaseWords}
 use Rattle.encoding.specs.Encoding.{encode, opFrom, decode}
 use Rattle.packing.specs.declared.Reply.{Reply}
 use Rattle.packing.specs.Packing.{countersAt, putCounters, recordAt, putRecord, freshWords, refusedBy, replyOf}
 use Rattle.exchange.specs.Exchange.{wordsRoom, Told, told, Left, left, stays}
-use Rattle.packing.specs.Packing.{putPhase, numberOf, putReply}
+use Rattle.packing.specs.Packing.{putTwo, numberOf, putReply}
 
 -- ---- the slices' lengths: two tables of the size, three counters and sixteen records of nine words, three words of
 -- answer
@@ -40,8 +39,8 @@ checked z ns es ws out who silent refused goes =
     cond (eqb (length out) 3) (cond (lengthsFit z ns es ws) (cond (ltb who 16) goes (refused 1)) (refused 7)) silent
 
 -- what has passed these checks
-abbrev pub admitted : Size → List ℕ → List ℕ → List ℕ → ℕ → Type 0
-admitted z ns es ws who = (lengthsFit z ns es ws ≡ true) × (who < 16)
+abbrev pub admitted : Size → List ℕ → List ℕ → List ℕ → List ℕ → ℕ → Type 0
+admitted z ns es ws out who = (length out ≡ 3) × (lengthsFit z ns es ws ≡ true) × (who < 16)
 
 -- then, words that are no record's
 abbrev pub onDecoded : {A : Type 0} → Decoded → (Session → A) → A → A
@@ -96,9 +95,9 @@ startCall z ns es ws out who kind first second =
     checked z ns es ws out who (heard ws out 7) (deaf ws out)
     (startSession z ns es ws out who (opFrom kind first second))
 
--- the words with another phase of one session, the answer with another reply, and no refusal
-abbrev pub went : List ℕ → List ℕ → ℕ → PhaseWords → Reply → Heard
-went ws out who p r = heard (putPhase ws who p) (putReply out r) 0
+-- two other words of one session's record, another answer, and no refusal
+abbrev pub went : List ℕ → List ℕ → ℕ → ℕ → ℕ → ℕ → ℕ → Reply → Heard
+went ws out who j x k y r = heard (putTwo ws who j x k y) (putReply out r) 0
 
 -- ---- step: both tables, the words, the answer and the number returned
 abbrev pub afterStep : List ℕ → List ℕ → ℕ → Done → Left

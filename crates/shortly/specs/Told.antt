@@ -20,8 +20,8 @@ use Rattle.shortly.specs.declared.Walked.{Walked}
 use Rattle.shortly.specs.declared.Ranged.{Ranged}
 use Rattle.shortly.specs.Shortly.{named}
 
--- ---- the words are a record's that is under way; its step leaves the tables, the counters and the operation, leads to
--- the phase with the words p, and answers with the reply r, which is no refusal
+-- ---- the words are a record's that is under way; its step leaves the tables, the counters and the operation, leads
+-- to the phase with the words p, and answers with the reply r, which is no refusal
 pub record Agrees (z : Size) (ns es : List ℕ) (w : Words) (p : PhaseWords) (r : Reply) : Type 0 where
   pub phase : Phase
   pub answer : Answer
