@@ -1,5 +1,5 @@
--- A short way is the step: storing the two words that change, and the reply, leaves what the step of the decoded record
--- leaves.
+-- A short way is the step: storing the two words that change, and the reply, leaves what the step of the decoded
+-- record leaves.
 -- In order: the call's checks; the step; the words; each way out of the functions that take a short way. Assumes
 -- nothing.
 use Prim.Native.Nat.{ℕ, _<_}

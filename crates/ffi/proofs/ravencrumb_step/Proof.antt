@@ -1,4 +1,5 @@
--- `ffi::ravencrumb_step` meets its contract: each way out is a law of proofs/Short.antt. Assumes nothing.
+-- `ffi::ravencrumb_step` meets its contract: what it calls meets the same, and a short way's checks are passed.
+-- Assumes nothing.
 use borrow.Author.Needs.{needs}
 use Rattle.ffi.proofs.ravencrumb_step.Statement.{statement}
 use Rattle.ffi.proofs.ravencrumb_step.Tie as tie
@@ -9,18 +10,6 @@ ravencrumb-step-spec =
     (tie.spec
     (λ c κs. search needs)
     (λ c κs. (search needs, (cc), search needs))
-    (λ c. search needs)
-    (λ c. search needs)
-    (λ c. search needs)
-    (λ c. search needs)
-    (λ c. search needs)
-    (λ c κs. search needs)
-    (λ c. search needs)
-    (λ c. search needs)
-    (λ c. search needs)
-    (λ c. search needs)
-    (λ c. search needs)
-    (λ c κs. search needs)
     (λ c. search needs)
     (λ c. search needs)
     (λ c. search needs)
