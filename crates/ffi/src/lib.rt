@@ -317,7 +317,8 @@ fn step_shortly(
     step_ranging(nodes, entries, words, answer, who)
 }
 
-// By a short way where one leads: nearly all steps are a walk's or a range's.
+// By a short way where one leads: nearly all steps are a walk's or a range's. Each other way calls by itself, which
+// compiles to less than one call that all of them share.
 #[no_mangle]
 pub extern "C" fn ravencrumb_step(
     nodes: &mut [u32],
@@ -335,7 +336,9 @@ pub extern "C" fn ravencrumb_step(
             if who < 16 {
                 return step_shortly(nodes, entries, words, answer, who);
             }
+            return step_fully(nodes, entries, words, answer, who);
         }
+        return step_fully(nodes, entries, words, answer, who);
     }
     step_fully(nodes, entries, words, answer, who)
 }
