@@ -2,10 +2,10 @@
 -- record leaves.
 -- In order: the call's checks; the step; the words; each way out of the functions that take a short way. Assumes
 -- nothing.
-use Prim.Native.Nat.{ℕ, _<_}
-use mathlib.Core.Path.{_≡_, sym, ap, _∙_}
+use Prim.Native.Nat.{ℕ}
+use mathlib.Core.Path.{_≡_, ap}
 use mathlib.Core.List.{List}
-use mathlib.Core.Bool.{Bool, true}
+use mathlib.Core.Bool.{true}
 use lib.ListN.{length}
 use lib.Dec.{eqb}
 use borrow.Author.Tests.{lt-ltb, eq-eqb}
@@ -18,13 +18,13 @@ use Rattle.encoding.specs.declared.Words.{Words}
 use Rattle.encoding.specs.Encoding.{opWords, sessionFrom}
 use Rattle.encoding.proofs.Trip.{and-first, encode-decode}
 use Rattle.packing.specs.declared.Reply.{Reply}
-use Rattle.packing.specs.Packing.{countersAt, opAt, phaseAt, recordAt, putPhase, putTwo, replyWith, replyOf, putReply}
+use Rattle.packing.specs.Packing.{countersAt, opAt, phaseAt, recordAt, putPhase, replyOf, putReply}
 use Rattle.packing.proofs.Same.{counters-same, op-same, walk-put, lead-put, hand-put}
 use Rattle.exchange.specs.Exchange.{wordsRoom, left}
 use Rattle.shortly.specs.declared.Walked.{Walked}
 use Rattle.shortly.specs.declared.Ranged.{Ranged}
 use Rattle.shortly.specs.Shortly.{named, walkShortly, rangeShortly}
-use Rattle.shortly.specs.Told.{Agrees, movedTo, ledTo, handedOut, WalkTold, RangeTold}
+use Rattle.shortly.specs.Told.{Agrees, WalkTold, RangeTold}
 use Rattle.shortly.proofs.Agrees.{walk-is-step, range-is-step}
 use Rattle.ffi.specs.Ffi.{lengthsFit, admitted, kept, heard, went, stepRecord, stepSession, stepCall}
 

@@ -1,7 +1,8 @@
 // The counters, the sixteen records and an answer in lent slices of words.
-// In order: what is answered; counters; one session's record; a fresh register's words; answers. Words 0 to 2 are
-// nodes used, entries used and the stamp; session s has words 3 + 9 s to 11 + 9 s (crate encoding says which). An
-// answer is three words: its name and its two values. Everything is total: what lies past a slice's end reads as 0.
+// In order: four places in a record; what is answered; counters; one session's record; a fresh register's words;
+// answers. Words 0 to 2 are nodes used, entries used and the stamp; session s has words 3 + 9 s to 11 + 9 s (crate
+// encoding says which). An answer is three words: its name and its two values. Everything is total: what lies past a
+// slice's end reads as 0.
 // Not here: the lengths that a call asks for (crate ffi). Assumes nothing.
 ghost use mathlib.Core.Path.{_≡_};
 ghost use Rattle.terms.specs.Terms.{refusalNumber};
@@ -86,7 +87,7 @@ pub fn record_at(words: &[u32], who: u32) -> Words
 pub fn phase_number(words: &[u32], who: u32) -> u32
     ensures { λ r. ⌜ r ≡ phaseNumber (now (words .entry)) who ⌝ }
 {
-    table::word(words, 9, who, 6)
+    table::word(words, 9, who, PHASE)
 }
 
 fn put_op(words: &mut [u32], who: u32, w: OpWords)

@@ -4,7 +4,7 @@
 use Prim.Native.Nat.{ℕ, _+_, _≤_, _<_}
 use mathlib.Core.Path.{_≡_, refl, sym, ap, _∙_}
 use mathlib.Core.List.{List}
-use mathlib.Core.Bool.{Bool, true, false, cond}
+use mathlib.Core.Bool.{Bool, true, cond}
 use native.Mathlib.Omega.{arith}
 use borrow.Author.Tests.{le-leb, ltb-true, leb-true, eqb-true}
 use Rattle.order.proofs.Tests.{cond-cases, ltb-cases, eqb-cases}
