@@ -1,22 +1,24 @@
 -- The round trip: a record's words decode to that record, decoded words encode back to themselves, and malformed words
 -- are no record's.
--- In order: words that test as the same are the same; the record that a record's words stand for; the three laws.
--- Assumes nothing.
+-- In order: words that test as the same are the same; right words are those of what they stand for; the record that a
+-- record's words stand for; the three laws. Assumes nothing.
 use Prim.Native.Nat.{ℕ}
 use mathlib.Core.Path.{_≡_, refl, sym, ap, _∙_}
 use mathlib.Core.Bool.{Bool, true, false, cond, _&&_}
 use lib.Dec.{eqb}
 use native.Mathlib.Omega.{arith}
-use borrow.Author.Tests.{eqb-true, eq-eqb}
+use borrow.Author.Tests.{eqb-true}
 use Rattle.terms.specs.declared.Op.{Op}
 use Rattle.steps.specs.declared.Phase.{Phase}
 use Rattle.steps.specs.declared.Session.{Session}
+use Rattle.encoding.specs.declared.OpWords.{OpWords}
+use Rattle.encoding.specs.declared.PhaseWords.{PhaseWords}
 use Rattle.encoding.specs.declared.Words.{Words}
 use Rattle.encoding.specs.declared.Decoded.{Decoded}
 use Rattle.encoding.specs.Encoding.{kindWith, phaseWith, opWords, phaseWords, encode, opFrom, walkingFrom}
-use Rattle.encoding.specs.Encoding.{updatingFrom, readingFrom, phaseFrom, sessionFrom, sameThree, sameWords}
-use Rattle.encoding.specs.Encoding.{decode}
-use Rattle.encoding.proofs.Ways.{sameOp, sameFront, sameBack}
+use Rattle.encoding.specs.Encoding.{updatingFrom, readingFrom, phaseFrom, sessionFrom, sameThree, opRight}
+use Rattle.encoding.specs.Encoding.{frontRight, backRight, decode}
+use Rattle.encoding.proofs.Ways.{three-self}
 
 -- ---- words that test as the same are the same
 pub and-first : (p q : Bool) → (p && q) ≡ true → p ≡ true
@@ -36,30 +38,23 @@ three-same a b c x y z h =
       eqb-true c z (and-second (eqb b y) (eqb c z) rest),
     )
 
--- the nine words of a record, one by one
-abbrev spread : Words → Words
-spread w =
-    record {
-      op = kindWith (w .op .kind) (w .op .first) (w .op .second);
-      phase = phaseWith (w .phase .phase) (w .phase .a) (w .phase .b) (w .phase .c) (w .phase .d) (w .phase .e);
-    }
+-- ---- right words are those of what they stand for
+abbrev spread : PhaseWords → PhaseWords
+spread w = phaseWith (w .phase) (w .a) (w .b) (w .c) (w .d) (w .e)
 
-pub words-same : (v w : Words) → sameWords v w ≡ true → v ≡ w
-unfolding sameWords
-words-same v w h =
-    let rest = and-second (sameOp v w) (sameFront v w && sameBack v w) h in
-    let o = three-same _ _ _ _ _ _ (and-first (sameOp v w) (sameFront v w && sameBack v w) h) in
-    let p = three-same _ _ _ _ _ _ (and-first (sameFront v w) (sameBack v w) rest) in
-    let q = three-same _ _ _ _ _ _ (and-second (sameFront v w) (sameBack v w) rest) in
-    let e : spread v ≡ spread w = cc in e
+pub op-right : (w : OpWords) → opRight w ≡ true → opWords (opFrom (w .kind) (w .first) (w .second)) ≡ w
+unfolding opRight
+op-right w h =
+    let o = three-same _ _ _ _ _ _ h in
+    let v = opWords (opFrom (w .kind) (w .first) (w .second)) in
+    let e : kindWith (v .kind) (v .first) (v .second) ≡ kindWith (w .kind) (w .first) (w .second) = cc in e
 
-three-self : (a b c : ℕ) → sameThree a b c a b c ≡ true
-unfolding sameThree
-three-self a b c = rw (eq-eqb a a refl, eq-eqb b b refl, eq-eqb c c refl)
-
-pub words-self : (w : Words) → sameWords w w ≡ true
-unfolding sameWords
-words-self w = simp three-self
+pub phase-right : (w : PhaseWords) → frontRight w ≡ true → backRight w ≡ true → phaseWords (phaseFrom w) ≡ w
+unfolding frontRight backRight
+phase-right w h i =
+    let p = three-same _ _ _ _ _ _ h in
+    let q = three-same _ _ _ _ _ _ i in
+    let e : spread (phaseWords (phaseFrom w)) ≡ spread w = cc in e
 
 -- ---- the record that a record's words stand for
 pub op-back : (op : Op) → opFrom (opWords op .kind) (opWords op .first) (opWords op .second) ≡ op
@@ -90,21 +85,44 @@ pub session-back : (s : Session) → sessionFrom (encode s) ≡ s
 session-back s = rw (op-back (s .op), phase-back (s .phase))
 
 -- ---- the three laws
-same-back : (x s : Session) → x ≡ s → sameWords (encode x) (encode s) ≡ true
-same-back x s e = ap (λ y. sameWords (encode y) (encode s)) e ∙ words-self (encode s)
+op-self : (op : Op) → opRight (opWords op) ≡ true
+unfolding opRight
+op-self op = rw (op-back op) (three-self _ _ _)
+
+front-self : (p : Phase) → frontRight (phaseWords p) ≡ true
+unfolding frontRight
+front-self p = rw (phase-back p) (three-self _ _ _)
+
+back-self : (p : Phase) → backRight (phaseWords p) ≡ true
+unfolding backRight
+back-self p = rw (phase-back p) (three-self _ _ _)
 
 pub decode-encode : (s : Session) → decode (encode s) ≡ Decoded.Record s
 unfolding decode
-decode-encode s = rw (same-back (sessionFrom (encode s)) s (session-back s)) (ap Decoded.Record (session-back s))
+decode-encode s =
+    rw (op-self (s .op), front-self (s .phase), back-self (s .phase)) (ap Decoded.Record (session-back s))
 
-tested : (t : Bool) (w : Words) (x s : Session) → (t ≡ true → encode x ≡ w)
-    → cond t (Decoded.Record x) Decoded.Malformed ≡ Decoded.Record s → encode s ≡ w
-tested true w x s h e = let z : s ≡ x = cc in ap encode z ∙ h refl
-tested false w x s h e = cc
+-- right words decode to what they stand for, and that encodes to them
+module _ (w : Words) (op : opRight (w .op) ≡ true) (front : frontRight (w .phase) ≡ true)
+    (back : backRight (w .phase) ≡ true) where
+  pub right-decodes : decode w ≡ Decoded.Record (sessionFrom w)
+  unfolding decode
+  right-decodes = rw (op, front, back)
+
+  pub right-encodes : encode (sessionFrom w) ≡ w
+  right-encodes = rw (op-right (w .op) op, phase-right (w .phase) front back)
+
+tested : (p q r : Bool) (w : Words) (x s : Session) → (p ≡ true → q ≡ true → r ≡ true → encode x ≡ w)
+    → cond (p && (q && r)) (Decoded.Record x) Decoded.Malformed ≡ Decoded.Record s → encode s ≡ w
+tested true true true w x s h e = let z : s ≡ x = cc in ap encode z ∙ h refl refl refl
+tested true true false w x s h e = cc
+tested true false r w x s h e = cc
+tested false q r w x s h e = cc
 
 pub encode-decode : (w : Words) (s : Session) → decode w ≡ Decoded.Record s → encode s ≡ w
 unfolding decode
-encode-decode w s e = tested (sameWords (encode (sessionFrom w)) w) w (sessionFrom w) s (words-same _ _) e
+encode-decode w s e =
+    tested (opRight (w .op)) (frontRight (w .phase)) (backRight (w .phase)) w (sessionFrom w) s (right-encodes w) e
 
 pub malformed-is-no-record : (w : Words) (s : Session) → decode w ≡ Decoded.Malformed → encode s ≡ w → ⊥
 malformed-is-no-record w s e h =

@@ -1,10 +1,13 @@
 -- Each way out of the encoding's functions, over plain values: what the code read and tested, and what it then is.
 -- In order: the words of an operation; of a phase; of a record; an operation from its words; a phase from its words;
--- are two the same; decoding. Assumes nothing.
-use Prim.Native.Nat.{ℕ, _≤_, _<_}
-use mathlib.Core.Path.{_≡_, ap, _∙_}
+-- are the words right, of an operation and of a phase; decoding. Assumes nothing.
+use Prim.Native.Nat.{ℕ, _+_, _≤_, _<_}
+use mathlib.Core.Path.{_≡_, refl, sym}
 use mathlib.Core.Bool.{Bool, true, false}
-use lib.Dec.{eqb}
+use lib.Dec.{eqb, leb}
+use native.Mathlib.Decide.{decLe}
+use native.Mathlib.Omega.{arith}
+use Rattle.order.proofs.Tests.{eqb-cases}
 use borrow.Author.Tests.{le-leb, lt-leb, eq-eqb, ne-eqb}
 use Rattle.terms.specs.declared.Op.{Op}
 use Rattle.steps.specs.declared.Phase.{Phase}
@@ -15,7 +18,7 @@ use Rattle.encoding.specs.declared.Words.{Words}
 use Rattle.encoding.specs.declared.Decoded.{Decoded}
 use Rattle.encoding.specs.Encoding.{kindWith, opWords, phaseWith, phaseWords, encode, opFrom, walkingFrom}
 use Rattle.encoding.specs.Encoding.{updatingFrom, readingFrom, phaseFrom}
-use Rattle.encoding.specs.Encoding.{sessionFrom, sameThree, sameWords, decode}
+use Rattle.encoding.specs.Encoding.{sessionFrom, sameThree, opRight, frontRight, backRight, decode}
 
 -- ---- the words of an operation, of a phase, of a record
 module _ (op : Op) where
@@ -201,59 +204,186 @@ module _ (w : PhaseWords) where
 
 pub ruleset phases = (is-idle, is-walking, is-updating, is-reading)
 
--- ---- are two the same
-module _ (a b c x y z : ℕ) where
-  pub same-last : a ≡ x → b ≡ y → eqb c z ≡ sameThree a b c x y z
+-- ---- are words right: of three, and of an operation
+module _ (x y z : ℕ) where
+  pub zero-last : x ≡ 0 → y ≡ 0 → eqb z 0 ≡ sameThree x y z 0 0 0
   unfolding sameThree
-  same-last h i = rw (eq-eqb _ _ h, eq-eqb _ _ i)
+  zero-last h i = rw (h, i)
 
-  pub same-second-not : a ≡ x → (b ≡ y → ⊥) → false ≡ sameThree a b c x y z
+  pub zero-second-not : x ≡ 0 → (y ≡ 0 → ⊥) → false ≡ sameThree x y z 0 0 0
   unfolding sameThree
-  same-second-not h i = rw (eq-eqb _ _ h, ne-eqb _ _ i)
+  zero-second-not h i = rw (h, ne-eqb _ _ i)
 
-  pub same-first-not : (a ≡ x → ⊥) → false ≡ sameThree a b c x y z
+  pub zero-first-not : (x ≡ 0 → ⊥) → false ≡ sameThree x y z 0 0 0
   unfolding sameThree
-  same-first-not h = rw (ne-eqb _ _ h)
+  zero-first-not h = rw (ne-eqb _ _ h)
 
-pub ruleset threes = (same-last, same-second-not, same-first-not)
+  pub three-self : sameThree x y z x y z ≡ true
+  unfolding sameThree
+  three-self = rw (eq-eqb x x refl, eq-eqb y y refl, eq-eqb z z refl)
 
-abbrev pub sameOp : Words → Words → Bool
-sameOp v w = sameThree (v .op .kind) (v .op .first) (v .op .second) (w .op .kind) (w .op .first) (w .op .second)
+pub ruleset zeros = (zero-last, zero-second-not, zero-first-not)
 
-abbrev pub sameFront : Words → Words → Bool
-sameFront v w =
-    sameThree (v .phase .phase) (v .phase .a) (v .phase .b) (w .phase .phase) (w .phase .a) (w .phase .b)
+-- one of two numbers, the one after the other
+either : {P : Type 0} (p n : ℕ) → n ≤ p → p ≤ n + 1 → (p ≡ n → P) → (p ≡ n + 1 → P) → P
+either p n h i f g = elim (decLe p n) [
+  | yes low ↦ f (omega arith)
+  | no high ↦ g (omega arith)
+]
 
-abbrev pub sameBack : Words → Words → Bool
-sameBack v w = sameThree (v .phase .c) (v .phase .d) (v .phase .e) (w .phase .c) (w .phase .d) (w .phase .e)
+module _ (w : OpWords) where
+  pub right-none : (b : Bool) → w .kind ≡ 0 → b ≡ sameThree (w .kind) (w .first) (w .second) 0 0 0 → b ≡ opRight w
+  unfolding opRight opFrom
+  right-none b h e = rw (e, h)
 
-module _ (v w : Words) (p : Bool) (test : p ≡ sameOp v w) where
-  pub same-back : (q r : Bool) → p ≡ true → q ≡ sameFront v w → q ≡ true → r ≡ sameBack v w → r ≡ sameWords v w
-  unfolding sameWords
-  same-back q r h front i e = rw (← test, h, ← front, i, e)
+  pub right-insert : w .kind ≡ 1 → true ≡ opRight w
+  unfolding opRight opFrom
+  right-insert h = rw (h, three-self)
 
-  pub same-front-not : (q : Bool) → p ≡ true → q ≡ sameFront v w → q ≡ false → false ≡ sameWords v w
-  unfolding sameWords
-  same-front-not q h front i = rw (← test, h, ← front, i)
+  pub right-range : w .kind ≡ 4 → true ≡ opRight w
+  unfolding opRight opFrom
+  right-range h = rw (h, three-self)
 
-  pub same-op-not : p ≡ false → false ≡ sameWords v w
-  unfolding sameWords
-  same-op-not h = rw (← test, h)
+  pub right-key : (w .kind ≡ 0 → ⊥) → (w .kind ≡ 1 → ⊥) → w .kind ≤ 3 → eqb (w .second) 0 ≡ opRight w
+  unfolding opRight opFrom sameThree
+  right-key h i j =
+      either (w .kind) 2 (omega arith) (omega arith) (λ e. rw (e, eq-eqb (w .first) _ refl))
+      (λ e. rw (e, eq-eqb (w .first) _ refl))
 
-pub ruleset sames = (same-back, same-front-not, same-op-not)
+  pub right-not : 3 < w .kind → (w .kind ≡ 4 → ⊥) → false ≡ opRight w
+  unfolding opRight opFrom sameThree
+  right-not h i =
+      rw (
+        ne-eqb (w .kind) 1 (omega arith),
+        ne-eqb (w .kind) 2 (omega arith),
+        ne-eqb (w .kind) 3 (omega arith),
+        ne-eqb (w .kind) 4 i,
+        ne-eqb (w .kind) 0 (omega arith),
+      )
+
+pub ruleset right-ops = (right-none, right-insert, right-range, right-key, right-not)
+
+-- ---- the words of the phase that words would stand for
+abbrev pub standsFor : PhaseWords → PhaseWords
+standsFor w = phaseWords (phaseFrom w)
+
+walking-words : (p a b : ℕ) → (p ≡ 0 → ⊥) → p ≤ 5 → phaseWords (walkingFrom p a b) ≡ phaseWith p a b 0 0 0
+unfolding walkingFrom
+walking-words p a b h i =
+    eqb-cases fit p 1 _ _ (λ e. rw e) (λ m.
+    eqb-cases fit p 2 _ _ (λ e. rw e) (λ n.
+    eqb-cases fit p 3 _ _ (λ e. rw e) (λ o.
+    eqb-cases fit p 4 _ _ (λ e. rw e) (λ q. let e : p ≡ 5 = omega arith in rw e))))
+  where
+    fit : Phase → Type 0
+    fit x = phaseWords x ≡ phaseWith p a b 0 0 0
+
+module _ (w : PhaseWords) where
+  as-idle : w .phase ≡ 0 → standsFor w ≡ phaseWith 0 0 0 0 0 0
+  as-idle h = rw (← is-idle w h)
+
+  as-walking : (w .phase ≡ 0 → ⊥) → w .phase ≤ 5 → standsFor w ≡ phaseWith (w .phase) (w .a) (w .b) 0 0 0
+  as-walking h i = rw (← is-walking w _ h i refl) (walking-words _ _ _ h i)
+
+  as-number : w .phase ≡ 6 → standsFor w ≡ phaseWith (w .phase) (w .a) (w .b) (w .c) (w .d) 0
+  unfolding phaseFrom updatingFrom
+  as-number h = rw h
+
+  as-updating : 6 < w .phase → w .phase ≤ 8
+      → standsFor w ≡ phaseWith (w .phase) (w .a) (w .b) (w .c) (w .d) (w .e)
+  unfolding phaseFrom updatingFrom
+  as-updating h i = either (w .phase) 7 (omega arith) (omega arith) (λ e. rw e) (λ e. rw e)
+
+  as-newest : 8 < w .phase → w .phase ≤ 10 → standsFor w ≡ phaseWith (w .phase) (w .a) 0 0 0 0
+  unfolding phaseFrom readingFrom
+  as-newest h i = either (w .phase) 9 (omega arith) (omega arith) (λ e. rw e) (λ e. rw e)
+
+  as-following : 10 < w .phase → w .phase ≤ 12
+      → standsFor w ≡ phaseWith (w .phase) (w .a) (w .b) (w .c) 0 0
+  unfolding phaseFrom readingFrom
+  as-following h i = either (w .phase) 11 (omega arith) (omega arith) (λ e. rw e) (λ e. rw e)
+
+  as-past : 12 < w .phase → standsFor w ≡ phaseWith 12 (w .a) (w .b) (w .c) 0 0
+  as-past h =
+      rw (← is-reading w _ (omega arith) (omega arith) (omega arith)
+      (is-hand _ _ _ _ (omega arith) (omega arith) (omega arith)))
+
+-- ---- are the words of a phase right
+module _ (w : PhaseWords) where
+  pub front-idle : (b : Bool) → w .phase ≡ 0 → b ≡ sameThree (w .phase) (w .a) (w .b) 0 0 0 → b ≡ frontRight w
+  unfolding frontRight
+  front-idle b h e = rw (as-idle w h, e)
+
+  pub front-all : (w .phase ≡ 0 → ⊥) → w .phase ≤ 8 → true ≡ frontRight w
+  unfolding frontRight
+  front-all h i = elim (decLe (w .phase) 5) [
+    | yes walks ↦ rw (as-walking w h walks, three-self)
+    | no past ↦ elim (decLe (w .phase) 6) [
+      | yes numbers ↦ rw (as-number w (omega arith), three-self)
+      | no updates ↦ rw (as-updating w (omega arith) i, three-self)
+    ]
+  ]
+
+  pub front-newest : 8 < w .phase → w .phase ≤ 10 → eqb (w .b) 0 ≡ frontRight w
+  unfolding frontRight sameThree
+  front-newest h i = rw (as-newest w h i, eq-eqb (w .phase) _ refl, eq-eqb (w .a) _ refl)
+
+  pub front-last : 10 < w .phase → leb (w .phase) 12 ≡ frontRight w
+  unfolding frontRight sameThree
+  front-last h = elim (decLe (w .phase) 12) [
+    | yes follows ↦ rw (le-leb _ _ follows, as-following w h follows) (sym (three-self (w .phase) (w .a) (w .b)))
+    | no past ↦ rw (lt-leb (w .phase) 12 (omega arith), as-past w (omega arith), ne-eqb (w .phase) 12 (omega arith))
+  ]
+
+  module _ (b : Bool) where
+    pub back-walks : w .phase ≤ 5 → b ≡ sameThree (w .c) (w .d) (w .e) 0 0 0 → b ≡ backRight w
+    unfolding backRight
+    back-walks h e = elim (decLe (w .phase) 0) [
+      | yes none ↦ rw (as-idle w (omega arith), e)
+      | no walks ↦ rw (as-walking w (omega arith) h, e)
+    ]
+
+    pub back-newest : 8 < w .phase → w .phase ≤ 10 → b ≡ sameThree (w .c) (w .d) (w .e) 0 0 0 → b ≡ backRight w
+    unfolding backRight
+    back-newest h i e = rw (as-newest w h i, e)
+
+    pub back-last : 10 < w .phase → b ≡ sameThree 0 (w .d) (w .e) 0 0 0 → b ≡ backRight w
+    unfolding backRight sameThree
+    back-last h e = elim (decLe (w .phase) 12) [
+      | yes follows ↦ rw (as-following w h follows, e, eq-eqb (w .c) _ refl)
+      | no past ↦ rw (as-past w (omega arith), e, eq-eqb (w .c) _ refl)
+    ]
+
+  pub back-number : w .phase ≡ 6 → eqb (w .e) 0 ≡ backRight w
+  unfolding backRight sameThree
+  back-number h = rw (as-number w h, eq-eqb (w .c) _ refl, eq-eqb (w .d) _ refl)
+
+  pub back-all : 5 < w .phase → (w .phase ≡ 6 → ⊥) → w .phase ≤ 8 → true ≡ backRight w
+  unfolding backRight
+  back-all h i j = rw (as-updating w (omega arith) j, three-self)
+
+pub ruleset right-fronts = (front-idle, front-all, front-newest, front-last)
+
+pub ruleset right-backs = (back-walks, back-number, back-all, back-newest, back-last)
 
 -- ---- decoding
-module _ (w v : Words) (s : Session) (b : Bool) (from : s ≡ sessionFrom w) (back : v ≡ encode s)
-    (test : b ≡ sameWords v w) where
-  told : b ≡ sameWords (encode (sessionFrom w)) w
-  told = test ∙ ap (λ x. sameWords x w) (back ∙ ap encode from)
-
-  pub decodes : b ≡ true → Decoded.Record s ≡ decode w
+module _ (w : Words) (p : Bool) (op : p ≡ opRight (w .op)) where
+  pub decodes-op-not : p ≡ false → Decoded.Malformed ≡ decode w
   unfolding decode
-  decodes h = rw (← told, h, from)
+  decodes-op-not h = rw (← op, h)
 
-  pub decodes-not : b ≡ false → Decoded.Malformed ≡ decode w
-  unfolding decode
-  decodes-not h = rw (← told, h)
+  module _ (q : Bool) (h : p ≡ true) (front : q ≡ frontRight (w .phase)) where
+    pub decodes-front-not : q ≡ false → Decoded.Malformed ≡ decode w
+    unfolding decode
+    decodes-front-not i = rw (← op, h, ← front, i)
 
-pub ruleset decoding = (decodes, decodes-not)
+    module _ (r : Bool) (i : q ≡ true) (back : r ≡ backRight (w .phase)) where
+      pub decodes-back-not : r ≡ false → Decoded.Malformed ≡ decode w
+      unfolding decode
+      decodes-back-not j = rw (← op, h, ← front, i, ← back, j)
+
+      pub decodes : (s : Session) → r ≡ true → s ≡ sessionFrom w → Decoded.Record s ≡ decode w
+      unfolding decode
+      decodes s j from = rw (← op, h, ← front, i, ← back, j, from)
+
+pub ruleset decoding = (decodes, decodes-op-not, decodes-front-not, decodes-back-not)

@@ -1,12 +1,12 @@
 -- A session's record as nine words: which operation (kind and two numbers), which phase, and that phase's own
 -- numbers.
--- In order: the words of a record; the record that words would stand for; are two the same; decoding. Kinds: 0 none,
+-- In order: the words of a record; the record that words would stand for; are they right; decoding. Kinds: 0 none,
 -- 1 insert, 2 remove, 3 has, 4 range. Phases, in the order of document 01's Steps: 0 idle, 1 Walk, 2 Lock, 3 Lock
 -- curr, 4 Check, 5 Prepare, 6 Number, 7 Link, 8 Finish, 9 has's Follow, 10 Fix, 11 Follow, 12 Hand. Unused words are
 -- 0.
 -- Not here: where the words lie (crate packing). Assumes nothing.
 use Prim.Native.Nat.{ℕ}
-use mathlib.Core.Bool.{Bool, true, false, cond, _&&_}
+use mathlib.Core.Bool.{Bool, cond, _&&_}
 use lib.Dec.{eqb, leb}
 use Rattle.terms.specs.declared.Op.{Op}
 use Rattle.steps.specs.declared.Phase.{Phase}
@@ -87,16 +87,31 @@ abbrev pub sessionFrom : Words → Session
 sessionFrom w =
     record { op = opFrom (w .op .kind) (w .op .first) (w .op .second); phase = phaseFrom (w .phase) }
 
--- ---- are two the same
+-- ---- are the words of an operation and of a phase right: those that what they would stand for has
 unfoldable pub sameThree : ℕ → ℕ → ℕ → ℕ → ℕ → ℕ → Bool
 sameThree a b c x y z = eqb a x && (eqb b y && eqb c z)
 
-unfoldable pub sameWords : Words → Words → Bool
-sameWords v w =
-    sameThree (v .op .kind) (v .op .first) (v .op .second) (w .op .kind) (w .op .first) (w .op .second)
-    && (sameThree (v .phase .phase) (v .phase .a) (v .phase .b) (w .phase .phase) (w .phase .a) (w .phase .b)
-    && sameThree (v .phase .c) (v .phase .d) (v .phase .e) (w .phase .c) (w .phase .d) (w .phase .e))
+abbrev pub sameOp : OpWords → OpWords → Bool
+sameOp v w = sameThree (v .kind) (v .first) (v .second) (w .kind) (w .first) (w .second)
+
+abbrev pub sameFront : PhaseWords → PhaseWords → Bool
+sameFront v w = sameThree (v .phase) (v .a) (v .b) (w .phase) (w .a) (w .b)
+
+abbrev pub sameBack : PhaseWords → PhaseWords → Bool
+sameBack v w = sameThree (v .c) (v .d) (v .e) (w .c) (w .d) (w .e)
+
+unfoldable pub opRight : OpWords → Bool
+opRight w = sameOp w (opWords (opFrom (w .kind) (w .first) (w .second)))
+
+unfoldable pub frontRight : PhaseWords → Bool
+frontRight w = sameFront w (phaseWords (phaseFrom w))
+
+unfoldable pub backRight : PhaseWords → Bool
+backRight w = sameBack w (phaseWords (phaseFrom w))
 
 -- ---- decoding: the record that encodes to these words; words that none encodes to are malformed
 unfoldable pub decode : Words → Decoded
-decode w = cond (sameWords (encode (sessionFrom w)) w) (Decoded.Record (sessionFrom w)) Decoded.Malformed
+decode w =
+    cond (opRight (w .op) && (frontRight (w .phase) && backRight (w .phase)))
+    (Decoded.Record (sessionFrom w))
+    Decoded.Malformed

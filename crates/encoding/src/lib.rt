@@ -1,5 +1,5 @@
 // A session's record as nine words, for callers in other languages, and back.
-// In order: the words; an operation's; a phase's; a record's; are two the same; the record that words stand for.
+// In order: the words; an operation's; a phase's; a record's; what words would stand for; are they right; decoding.
 // The words of a record are decoded and encoded back unchanged; words that no record encodes to are malformed
 // (proofs/Trip.antt). Not here: where the words lie in a lent slice (crate packing). Assumes nothing.
 ghost use mathlib.Core.Path.{_≡_};
@@ -14,7 +14,9 @@ ghost use Rattle.encoding.specs.Encoding.{
   phaseFrom,
   sessionFrom,
   sameThree,
-  sameWords,
+  opRight,
+  frontRight,
+  backRight,
   decode,
 };
 use steps::Phase;
@@ -343,32 +345,70 @@ fn session_from(w: Words) -> Session
     Session { op, phase }
 }
 
-fn same_three(a: u32, b: u32, c: u32, x: u32, y: u32, z: u32) -> bool
-    ensures { λ r. ⌜ r ≡ sameThree a b c x y z ⌝ }
+pub fn all_zero(x: u32, y: u32, z: u32) -> bool
+    ensures { λ r. ⌜ r ≡ sameThree x y z 0 0 0 ⌝ }
 {
-    if a == x {
-        if b == y {
-            return c == z;
+    if x == 0 {
+        if y == 0 {
+            return z == 0;
         }
         return false;
     }
     false
 }
 
-fn same_words(v: Words, w: Words) -> bool
-    ensures { λ r. ⌜ r ≡ sameWords v w ⌝ }
+// A kind, and 0 in the words that it does not use.
+pub fn op_right(w: OpWords) -> bool
+    ensures { λ r. ⌜ r ≡ opRight w ⌝ }
 {
-    let o = v.op;
-    let p = v.phase;
-    let q = w.op;
-    let r = w.phase;
-    if same_three(o.kind, o.first, o.second, q.kind, q.first, q.second) {
-        if same_three(p.phase, p.a, p.b, r.phase, r.a, r.b) {
-            return same_three(p.c, p.d, p.e, r.c, r.d, r.e);
-        }
-        return false;
+    if w.kind == 0 {
+        return all_zero(w.kind, w.first, w.second);
+    }
+    if w.kind == 1 {
+        return true;
+    }
+    if w.kind == 4 {
+        return true;
+    }
+    if w.kind <= 3 {
+        return w.second == 0;
     }
     false
+}
+
+// A phase, and 0 in those of its first two numbers that it does not use.
+fn front_right(w: PhaseWords) -> bool
+    ensures { λ r. ⌜ r ≡ frontRight w ⌝ }
+{
+    if w.phase == 0 {
+        return all_zero(w.phase, w.a, w.b);
+    }
+    if w.phase <= 8 {
+        return true;
+    }
+    if w.phase <= 10 {
+        return w.b == 0;
+    }
+    w.phase <= 12
+}
+
+// 0 in those of the last three numbers that the phase does not use.
+fn back_right(w: PhaseWords) -> bool
+    ensures { λ r. ⌜ r ≡ backRight w ⌝ }
+{
+    if w.phase <= 5 {
+        return all_zero(w.c, w.d, w.e);
+    }
+    if w.phase == 6 {
+        return w.e == 0;
+    }
+    if w.phase <= 8 {
+        return true;
+    }
+    if w.phase <= 10 {
+        return all_zero(w.c, w.d, w.e);
+    }
+    all_zero(0, w.d, w.e)
 }
 
 // The record that encodes to these words. What no record encodes to is malformed: a kind above 4, a phase above 12,
@@ -376,10 +416,17 @@ fn same_words(v: Words, w: Words) -> bool
 pub fn decode_words(w: Words) -> Decoded
     ensures { λ r. ⌜ r ≡ decode w ⌝ }
 {
-    let s = session_from(w);
-    let back = encode_session(s);
-    if same_words(back, w) {
-        return Decoded::Record(s);
+    let o = w.op;
+    let p = w.phase;
+    if op_right(o) {
+        if front_right(p) {
+            if back_right(p) {
+                let s = session_from(w);
+                return Decoded::Record(s);
+            }
+            return Decoded::Malformed;
+        }
+        return Decoded::Malformed;
     }
     Decoded::Malformed
 }

@@ -5,9 +5,10 @@
 -- answer (proofs/Kept.antt); an answer of another length than 3, or 5 for several steps, stays.
 -- Not here: listings (crate exchange), the register's calls (crate register), where words lie (crate packing).
 -- Assumes nothing.
-use Prim.Native.Nat.{ℕ}
+use Prim.Native.Nat.{ℕ, _<_}
+use mathlib.Core.Path.{_≡_}
 use mathlib.Core.List.{List}
-use mathlib.Core.Bool.{Bool, cond, _&&_}
+use mathlib.Core.Bool.{Bool, true, cond, _&&_}
 use lib.ListN.{length}
 use lib.Dec.{ltb, eqb}
 use Rattle.terms.specs.Terms.{refusalNumber}
@@ -28,7 +29,7 @@ use Rattle.encoding.specs.Encoding.{encode, opFrom, decode}
 use Rattle.packing.specs.declared.Reply.{Reply}
 use Rattle.packing.specs.Packing.{countersAt, putCounters, recordAt, putRecord, freshWords, refusedBy, replyOf}
 use Rattle.exchange.specs.Exchange.{wordsRoom, Told, told, Left, left, stays}
-use Rattle.packing.specs.Packing.{numberOf, putReply}
+use Rattle.packing.specs.Packing.{putTwo, numberOf, putReply}
 
 -- ---- the slices' lengths: two tables of the size, three counters and sixteen records of nine words, three words of
 -- answer
@@ -39,6 +40,10 @@ lengthsFit z ns es ws = fits z ns es && eqb (length ws) wordsRoom
 abbrev pub checked : {A : Type 0} → ℕ → Size → List ℕ → List ℕ → List ℕ → List ℕ → ℕ → A → (ℕ → A) → A → A
 checked room z ns es ws out who silent refused goes =
     cond (eqb (length out) room) (cond (lengthsFit z ns es ws) (cond (ltb who 16) goes (refused 1)) (refused 7)) silent
+
+-- what has passed these checks
+abbrev pub admitted : Size → List ℕ → List ℕ → List ℕ → List ℕ → ℕ → Type 0
+admitted z ns es ws out who = (length out ≡ 3) × (lengthsFit z ns es ws ≡ true) × (who < 16)
 
 -- then, words that are no record's
 abbrev pub onDecoded : {A : Type 0} → Decoded → (Session → A) → A → A
@@ -92,6 +97,10 @@ unfoldable pub startCall : Size → List ℕ → List ℕ → List ℕ → List 
 startCall z ns es ws out who kind first second =
     checked 3 z ns es ws out who (heard ws out 7) (deaf ws out)
     (startSession z ns es ws out who (opFrom kind first second))
+
+-- two other words of one session's record, another answer, and no refusal
+abbrev pub went : List ℕ → List ℕ → ℕ → ℕ → ℕ → ℕ → ℕ → Reply → Heard
+went ws out who j x k y r = heard (putTwo ws who j x k y) (putReply out r) 0
 
 -- ---- step: both tables, the words, the answer and the number returned
 abbrev pub afterStep : List ℕ → List ℕ → ℕ → Done → Left

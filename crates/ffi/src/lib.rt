@@ -1,8 +1,9 @@
 // The register for other programs (C, Rust): fresh, start, step and listings, over lent slices.
-// In order: the slices' lengths; answering; fresh; start; step; writing and reading a listing. `words` are 147: the
-// counters and sixteen records (crate packing); `answer` is 3: the answer's name and values. Each call returns 0 or a
-// refusal's number; a refusal changes nothing but the answer; where the answer has another length than 3, nothing at
-// all is written. No call has a `requires`: wrong lengths are refused 7, words that are no record's 8.
+// In order: the slices' lengths; answering; fresh; start; step, whole and by a short way (crate shortly); writing and
+// reading a listing. `words` are 147: the counters and sixteen records (crate packing); `answer` is 3: the answer's
+// name and values. Each call returns 0 or a refusal's number; a refusal changes nothing but the answer; where the
+// answer has another length than 3, nothing at all is written. No call has a `requires`: wrong lengths are refused 7,
+// words that are no record's 8.
 // include/ravencrumb.h declares the calls.
 // Not here: what the calls mean (crate register). Assumes nothing.
 ghost use mathlib.Core.Path.{_≡_};
@@ -19,6 +20,8 @@ ghost use Rattle.ffi.specs.Ffi.{
   startSession,
   startCall,
   stepRecord,
+  went,
+  admitted,
   stepSession,
   stepCall,
   tally,
@@ -31,7 +34,14 @@ ghost use Rattle.packing.specs.Packing.{refusedBy, putReply};
 ghost use Rattle.listing.specs.Listing.{keyRoom};
 ghost use Rattle.exchange.specs.Exchange.{told, left, wrote, writeCall, readCall};
 use encoding::Decoded;
+use packing::A;
+use packing::B;
+use packing::C;
+use packing::PHASE;
+use packing::Reply;
 use register::Opened;
+use shortly::Ranged;
+use shortly::Walked;
 use steps::Session;
 use terms::Answer;
 use terms::Counters;
@@ -202,8 +212,8 @@ fn step_session(
     }
 }
 
-#[no_mangle]
-pub extern "C" fn ravencrumb_step(
+// The whole call: the checks, and the step on the record decoded.
+fn step_fully(
     nodes: &mut [u32],
     entries: &mut [u32],
     words: &mut [u32],
@@ -224,6 +234,119 @@ pub extern "C" fn ravencrumb_step(
         return refuse(answer, 7);
     }
     7
+}
+
+// Puts what a short way tells: the two words that change, and the answer, which is no refusal.
+fn go(
+    words: &mut [u32],
+    answer: &mut [u32],
+    who: u32,
+    j: u32,
+    x: u32,
+    k: u32,
+    y: u32,
+    reply: Reply,
+) -> u32
+    ensures { λ r. ⌜ heard (now (words .exit)) (now (answer .exit)) r
+        ≡ went (now (words .entry)) (now (answer .entry)) who j x k y reply ⌝ }
+{
+    packing::put_two(words, who, j, x, k, y);
+    packing::put_reply(answer, reply);
+    0
+}
+
+fn step_walking(
+    nodes: &mut [u32],
+    entries: &mut [u32],
+    words: &mut [u32],
+    answer: &mut [u32],
+    who: u32,
+) -> u32
+    requires { ⌜ admitted small (now nodes) (now entries) (now words) (now answer) who ⌝ }
+    ensures { λ r. ⌜ left (now (nodes .exit)) (now (entries .exit)) (now (words .exit)) (now (answer .exit)) r
+        ≡ stepCall small (now (nodes .entry)) (now (entries .entry)) (now (words .entry)) (now (answer .entry))
+        who ⌝ }
+{
+    let w = packing::record_at(words, who);
+    match shortly::walk(nodes, w) {
+        Walked::On(next) => {
+            let p = w.phase;
+            let reply = packing::say(Answer::Working);
+            go(words, answer, who, A, p.b, B, next, reply)
+        }
+        Walked::Long => step_fully(nodes, entries, words, answer, who),
+    }
+}
+
+fn step_ranging(
+    nodes: &mut [u32],
+    entries: &mut [u32],
+    words: &mut [u32],
+    answer: &mut [u32],
+    who: u32,
+) -> u32
+    requires { ⌜ admitted small (now nodes) (now entries) (now words) (now answer) who ⌝ }
+    ensures { λ r. ⌜ left (now (nodes .exit)) (now (entries .exit)) (now (words .exit)) (now (answer .exit)) r
+        ≡ stepCall small (now (nodes .entry)) (now (entries .entry)) (now (words .entry)) (now (answer .entry))
+        who ⌝ }
+{
+    let w = packing::record_at(words, who);
+    match shortly::range(nodes, entries, w) {
+        Ranged::Leads(phase, to) => {
+            let reply = packing::say(Answer::Working);
+            go(words, answer, who, PHASE, phase, A, to, reply)
+        }
+        Ranged::Hands(handed, key, value) => {
+            let reply = packing::say(Answer::Key(key, value));
+            go(words, answer, who, PHASE, 11, C, handed, reply)
+        }
+        Ranged::Long => step_fully(nodes, entries, words, answer, who),
+    }
+}
+
+// A walk's way is tried for a walk alone, and a range's for the rest.
+fn step_shortly(
+    nodes: &mut [u32],
+    entries: &mut [u32],
+    words: &mut [u32],
+    answer: &mut [u32],
+    who: u32,
+) -> u32
+    requires { ⌜ admitted small (now nodes) (now entries) (now words) (now answer) who ⌝ }
+    ensures { λ r. ⌜ left (now (nodes .exit)) (now (entries .exit)) (now (words .exit)) (now (answer .exit)) r
+        ≡ stepCall small (now (nodes .entry)) (now (entries .entry)) (now (words .entry)) (now (answer .entry))
+        who ⌝ }
+{
+    if packing::phase_number(words, who) == 1 {
+        return step_walking(nodes, entries, words, answer, who);
+    }
+    step_ranging(nodes, entries, words, answer, who)
+}
+
+// By a short way where one leads: nearly all steps are a walk's or a range's. Each other way calls by itself, which
+// compiles to less than one call that all of them share.
+#[no_mangle]
+pub extern "C" fn ravencrumb_step(
+    nodes: &mut [u32],
+    entries: &mut [u32],
+    words: &mut [u32],
+    answer: &mut [u32],
+    who: u32,
+) -> u32
+    ensures { λ r. ⌜ left (now (nodes .exit)) (now (entries .exit)) (now (words .exit)) (now (answer .exit)) r
+        ≡ stepCall small (now (nodes .entry)) (now (entries .entry)) (now (words .entry)) (now (answer .entry))
+        who ⌝ }
+{
+    if answer.len() == 3 {
+        if right_lengths(nodes, entries, words) {
+            if who < 16 {
+                return step_shortly(nodes, entries, words, answer, who);
+            }
+            return step_fully(nodes, entries, words, answer, who);
+        }
+        return step_fully(nodes, entries, words, answer, who);
+    }
+    step_fully(nodes, entries, words, answer, who)
 }
 
 // Puts how many pairs are filled and how many steps were made behind an answer, and returns what the call returns.

@@ -15,7 +15,7 @@ use Rattle.encoding.specs.declared.Words.{Words}
 use Rattle.encoding.specs.Encoding.{kindWith, phaseWith}
 use Rattle.packing.specs.declared.Reply.{Reply}
 use Rattle.packing.specs.Packing.{countersAt, recordAt, putCounters, putOp, putFront, putBack, putRecord}
-use Rattle.packing.specs.Packing.{freshWords}
+use Rattle.packing.specs.Packing.{putPhase, putTwo, freshWords}
 use Rattle.packing.specs.Packing.{replyWith, refusedBy, replyOf, numberOf, putReply}
 
 -- ---- words read
@@ -58,9 +58,15 @@ module _ (ws a b c : List ℕ) where
     unfolding putBack
     puts-back w ha hb hc = cc
 
-    pub puts-record : (w : Words) → a ≡ putOp ws who (w .op) → b ≡ putFront a who (w .phase)
-        → c ≡ putBack b who (w .phase) → c ≡ putRecord ws who w
-    puts-record w ha hb hc = cc
+module _ (ws a b : List ℕ) (who : ℕ) where
+  pub puts-two : (j x k y : ℕ) → a ≡ storeOf 9 ws who j x → b ≡ storeOf 9 a who k y → b ≡ putTwo ws who j x k y
+  puts-two j x k y ha hb = cc
+
+  pub puts-phase : (w : PhaseWords) → a ≡ putFront ws who w → b ≡ putBack a who w → b ≡ putPhase ws who w
+  puts-phase w ha hb = cc
+
+  pub puts-record : (w : Words) → a ≡ putOp ws who (w .op) → b ≡ putPhase a who (w .phase) → b ≡ putRecord ws who w
+  puts-record w ha hb = cc
 
 pub puts-fresh : (ws a b : List ℕ) (c : Counters) → a ≡ clearOf ws → b ≡ putCounters a c → b ≡ freshWords ws c
 puts-fresh ws a b c ha hb = cc

@@ -41,6 +41,9 @@ phaseAt ws who =
 abbrev pub recordAt : List ℕ → ℕ → Words
 recordAt ws who = record { op = opAt ws who; phase = phaseAt ws who }
 
+abbrev pub phaseNumber : List ℕ → ℕ → ℕ
+phaseNumber ws who = phaseAt ws who .phase
+
 unfoldable pub putOp : List ℕ → ℕ → OpWords → List ℕ
 putOp ws who w = storeOf 9 (storeOf 9 (storeOf 9 ws who 3 (w .kind)) who 4 (w .first)) who 5 (w .second)
 
@@ -50,8 +53,15 @@ putFront ws who w = storeOf 9 (storeOf 9 (storeOf 9 ws who 6 (w .phase)) who 7 (
 unfoldable pub putBack : List ℕ → ℕ → PhaseWords → List ℕ
 putBack ws who w = storeOf 9 (storeOf 9 (storeOf 9 ws who 9 (w .c)) who 10 (w .d)) who 11 (w .e)
 
+abbrev pub putPhase : List ℕ → ℕ → PhaseWords → List ℕ
+putPhase ws who w = putBack (putFront ws who w) who w
+
+-- two words of a record, at the places j and k
+abbrev pub putTwo : List ℕ → ℕ → ℕ → ℕ → ℕ → ℕ → List ℕ
+putTwo ws who j x k y = storeOf 9 (storeOf 9 ws who j x) who k y
+
 abbrev pub putRecord : List ℕ → ℕ → Words → List ℕ
-putRecord ws who w = putBack (putFront (putOp ws who (w .op)) who (w .phase)) who (w .phase)
+putRecord ws who w = putPhase (putOp ws who (w .op)) who (w .phase)
 
 -- ---- a fresh register's words: all sessions idle, and an idle record's words are 0
 abbrev pub freshWords : List ℕ → Counters → List ℕ

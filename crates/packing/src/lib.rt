@@ -1,7 +1,8 @@
 // The counters, the sixteen records and an answer in lent slices of words.
-// In order: what is answered; counters; one session's record; a fresh register's words; answers. Words 0 to 2 are
-// nodes used, entries used and the stamp; session s has words 3 + 9 s to 11 + 9 s (crate encoding says which). An
-// answer is three words: its name and its two values. Everything is total: what lies past a slice's end reads as 0.
+// In order: four places in a record; what is answered; counters; one session's record; a fresh register's words;
+// answers. Words 0 to 2 are nodes used, entries used and the stamp; session s has words 3 + 9 s to 11 + 9 s (crate
+// encoding says which). An answer is three words: its name and its two values. Everything is total: what lies past a
+// slice's end reads as 0.
 // Not here: the lengths that a call asks for (crate ffi). Assumes nothing.
 ghost use mathlib.Core.Path.{_≡_};
 ghost use Rattle.terms.specs.Terms.{refusalNumber};
@@ -9,9 +10,12 @@ ghost use Rattle.packing.specs.Packing.{
   countersAt,
   putCounters,
   recordAt,
+  phaseNumber,
   putOp,
   putFront,
   putBack,
+  putPhase,
+  putTwo,
   putRecord,
   freshWords,
   refusedBy,
@@ -25,6 +29,15 @@ use encoding::Words;
 use terms::Answer;
 use terms::Counters;
 use terms::Refusal;
+
+// Where the phase and its first three numbers stand in a record.
+pub const PHASE: u32 = 6;
+
+pub const A: u32 = 7;
+
+pub const B: u32 = 8;
+
+pub const C: u32 = 9;
 
 // An answer's name and values, as numbers.
 pub struct Reply {
@@ -70,6 +83,13 @@ pub fn record_at(words: &[u32], who: u32) -> Words
     Words { op, phase }
 }
 
+// The phase's number alone, for who asks nothing else of a record.
+pub fn phase_number(words: &[u32], who: u32) -> u32
+    ensures { λ r. ⌜ r ≡ phaseNumber (now (words .entry)) who ⌝ }
+{
+    table::word(words, 9, who, PHASE)
+}
+
 fn put_op(words: &mut [u32], who: u32, w: OpWords)
     ensures { λ _. ⌜ now (words .exit) ≡ putOp (now (words .entry)) who w ⌝ }
 {
@@ -94,14 +114,28 @@ fn put_back(words: &mut [u32], who: u32, w: PhaseWords)
     table::store(words, 9, who, 11, w.e);
 }
 
+fn put_phase(words: &mut [u32], who: u32, w: PhaseWords)
+    ensures { λ _. ⌜ now (words .exit) ≡ putPhase (now (words .entry)) who w ⌝ }
+{
+    put_front(words, who, w);
+    put_back(words, who, w);
+}
+
+// Two words of a record, where a step leaves the others as they are.
+pub fn put_two(words: &mut [u32], who: u32, j: u32, x: u32, k: u32, y: u32)
+    ensures { λ _. ⌜ now (words .exit) ≡ putTwo (now (words .entry)) who j x k y ⌝ }
+{
+    table::store(words, 9, who, j, x);
+    table::store(words, 9, who, k, y);
+}
+
 pub fn put_record(words: &mut [u32], who: u32, w: Words)
     ensures { λ _. ⌜ now (words .exit) ≡ putRecord (now (words .entry)) who w ⌝ }
 {
     let op = w.op;
     let phase = w.phase;
     put_op(words, who, op);
-    put_front(words, who, phase);
-    put_back(words, who, phase);
+    put_phase(words, who, phase);
 }
 
 // An idle record's words are all 0.

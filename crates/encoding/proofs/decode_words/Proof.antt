@@ -11,5 +11,8 @@ decode-words-spec =
     (λ c κs. search needs)
     (λ c κs. search needs)
     (λ c κs. search needs)
+    (λ c κs. search needs)
+    (λ c. search decoding)
+    (λ c. search decoding)
     (λ c. search decoding)
     (λ c. search decoding))

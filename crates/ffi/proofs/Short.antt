@@ -1,0 +1,85 @@
+-- A short way is the step: storing the two words that change, and the reply, leaves what the step of the decoded
+-- record leaves.
+-- In order: the call's checks; the step; the words; each way out of the functions that take a short way. Assumes
+-- nothing.
+use Prim.Native.Nat.{ℕ}
+use mathlib.Core.Path.{_≡_, ap}
+use mathlib.Core.List.{List}
+use mathlib.Core.Bool.{true}
+use lib.ListN.{length}
+use lib.Dec.{eqb}
+use borrow.Author.Tests.{lt-ltb, eq-eqb}
+use Rattle.terms.specs.declared.Size.{Size}
+use Rattle.terms.specs.declared.Answer.{Answer}
+use Rattle.steps.specs.Steps.{done, gives}
+use Rattle.register.specs.Register.{fits, stepOf}
+use Rattle.encoding.specs.declared.PhaseWords.{PhaseWords}
+use Rattle.encoding.specs.declared.Words.{Words}
+use Rattle.encoding.specs.Encoding.{opWords, sessionFrom}
+use Rattle.encoding.proofs.Trip.{and-first, encode-decode}
+use Rattle.packing.specs.declared.Reply.{Reply}
+use Rattle.packing.specs.Packing.{countersAt, opAt, phaseAt, recordAt, putPhase, replyOf, putReply}
+use Rattle.packing.proofs.Same.{counters-same, op-same, walk-put, lead-put, hand-put}
+use Rattle.exchange.specs.Exchange.{wordsRoom, left}
+use Rattle.shortly.specs.declared.Walked.{Walked}
+use Rattle.shortly.specs.declared.Ranged.{Ranged}
+use Rattle.shortly.specs.Shortly.{named, walkShortly, rangeShortly}
+use Rattle.shortly.specs.Told.{Agrees, WalkTold, RangeTold}
+use Rattle.shortly.proofs.Agrees.{walk-is-step, range-is-step}
+use Rattle.ffi.specs.Ffi.{lengthsFit, admitted, kept, heard, went, stepRecord, stepSession, stepCall}
+
+module _ (z : Size) (ns es ws out : List ℕ) (who : ℕ) (ready : admitted z ns es ws out who) where
+  -- ---- the call's checks
+  call-goes : stepCall z ns es ws out who ≡ stepSession z ns es ws out who
+  unfolding stepCall
+  call-goes = rw (eq-eqb _ _ (ready .0), ready .1, lt-ltb who 16 (ready .2))
+
+  tables-fit : fits z ns es ≡ true
+  unfolding lengthsFit
+  tables-fit = and-first (fits z ns es) (eqb (length ws) wordsRoom) (ready .1)
+
+  -- ---- the step, and the words
+  module _ (p : PhaseWords) (r : Reply) (g : Agrees z ns es (recordAt ws who) p r) where
+    steps-to : stepOf z ns es (countersAt ws) who (sessionFrom (recordAt ws who))
+        ≡ done ns es (gives (countersAt ws) (named (recordAt ws who)) (g .phase) (g .answer))
+    unfolding stepOf
+    steps-to = rw (tables-fit, lt-ltb who 16 (ready .2), g .busy) (g .acts (countersAt ws) who)
+
+    op-kept : opWords (named (recordAt ws who)) ≡ opAt ws who
+    op-kept = ap (λ v. v .op) (encode-decode (recordAt ws who) (sessionFrom (recordAt ws who)) (g .read))
+
+    keeps-rest : kept ws who (countersAt ws) (record { op = named (recordAt ws who); phase = g .phase })
+        ≡ putPhase ws who p
+    keeps-rest = rw (counters-same ws, op-kept, op-same ws who, g .words)
+
+    short-steps : left ns es (putPhase ws who p) (putReply out r) 0 ≡ stepCall z ns es ws out who
+    unfolding stepSession stepRecord
+    short-steps = rw (call-goes, g .read, steps-to, keeps-rest, g .reply, g .number)
+
+  -- ---- each way out
+  module _ (w : Words) (r : Reply) (ws′ out′ : List ℕ) (n : ℕ) (words : w ≡ recordAt ws who) where
+    pub walks-shortly : (x : Walked) (next : ℕ) → x ≡ walkShortly z ns w → x ≡ Walked.On next
+        → r ≡ replyOf Answer.Working → heard ws′ out′ n ≡ went ws out who 7 (w .phase .b) 8 next r
+        → left ns es ws′ out′ n ≡ stepCall z ns es ws out who
+    walks-shortly x next e goes says puts =
+        let told : walkShortly z ns (recordAt ws who) ≡ Walked.On next = rw (← words, ← e, goes) in
+        let g : WalkTold z ns es (recordAt ws who) (Walked.On next)
+        = rw told at (walk-is-step z ns es (recordAt ws who)) in
+        cc (short-steps _ _ g, walk-put ws who (phaseAt ws who .b) next)
+
+    module _ (x : Ranged) (e : x ≡ rangeShortly z ns es w) where
+      pub leads-shortly : (f to : ℕ) → x ≡ Ranged.Leads f to → r ≡ replyOf Answer.Working
+          → heard ws′ out′ n ≡ went ws out who 6 f 7 to r → left ns es ws′ out′ n ≡ stepCall z ns es ws out who
+      leads-shortly f to goes says puts =
+          let told : rangeShortly z ns es (recordAt ws who) ≡ Ranged.Leads f to = rw (← words, ← e, goes) in
+          let g : RangeTold z ns es (recordAt ws who) (Ranged.Leads f to)
+          = rw told at (range-is-step z ns es (recordAt ws who)) in
+          cc (short-steps _ _ g, lead-put ws who f to)
+
+      pub hands-shortly : (m k v : ℕ) → x ≡ Ranged.Hands m k v → r ≡ replyOf (Answer.Key k v)
+          → heard ws′ out′ n ≡ went ws out who 6 11 9 m r → left ns es ws′ out′ n ≡ stepCall z ns es ws out who
+      hands-shortly m k v goes says puts =
+          let told : rangeShortly z ns es (recordAt ws who) ≡ Ranged.Hands m k v = rw (← words, ← e, goes) in
+          let g : RangeTold z ns es (recordAt ws who) (Ranged.Hands m k v)
+          = rw told at (range-is-step z ns es (recordAt ws who)) in
+          cc (short-steps _ _ g, hand-put ws who 11 m)
