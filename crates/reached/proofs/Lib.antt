@@ -1,2 +1,3 @@
--- Laws of the history that calls give.
+-- Laws of the history that calls give. In order: History, Values.
 pub mod History
+pub mod Values
