@@ -53,7 +53,11 @@ dec-word : (n : ℕ) → Dec (Word n)
 dec-word n = decLe n 4294967295
 
 dec-words : (c : Call) → Dec (InWords c)
-dec-words (Call.Start who op) = both (dec-word (soughtOf op)) (both (dec-word (highOf op)) (dec-word (valueOf op)))
+dec-words (Call.Start who op) =
+    elim (both (dec-word (soughtOf op)) (both (dec-word (highOf op)) (dec-word (valueOf op)))) [
+      | yes w ↦ yes (w .0, w .1 .0, w .1 .1)
+      | no n ↦ no (λ w. n (w .0, (w .1, w .2)))
+    ]
 dec-words (Call.Step who) = yes tt
 
 module _ (key val : ℕ → ℕ) where
