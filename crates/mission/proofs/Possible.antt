@@ -35,7 +35,7 @@ use Rattle.words.proofs.Demand2.{seen}
 use Rattle.mission.specs.Runs
 use Rattle.mission.specs.Runs.{run, pastOf, Kind, kindOf}
 use Rattle.mission.specs.Mission.{begun, begunPast}
-use Rattle.mission.specs.Listed.{valuesOf, Listed}
+use Rattle.mission.specs.Listed.{Listed}
 use Rattle.mission.specs.Possible.{begin, Stands, Answers, Refused, meanwhile, Query, query, Possible}
 use Rattle.mission.proofs.Mission.{run-reached}
 use Rattle.mission.proofs.Listed.{listed-moment}
@@ -154,10 +154,6 @@ query-list : query ≡ (20, 7) ∷ []
 unfolding opened-up
 query-list = refl
 
-seven-fits : Fit (7 ∷ [])
-seven-fits zero = omega arith
-seven-fits (suc i) = omega arith
-
 loaded : Listed 1 query (replicate 16357 0) ((20, 7) ∷ [])
 loaded =
     let σ = begun begin noPast 1 1 4294967294 meanwhile in
@@ -166,8 +162,7 @@ loaded =
     (query-ends .in-words .1) in
     subst (Listed 1 query (replicate 16357 0)) query-list
     (listed-moment .any-range (run σ meanwhile) (pastOf σ h meanwhile) R (Call.Step 1) 1 1 (query-ends .ended)
-    (subst (λ r. Fit (valuesOf r)) (sym query-list) seven-fits) (replicate 16357 0)
-    (omega (arith, length-replicate {A = ℕ} 16357 0)))
+    (replicate 16357 0) (omega (arith, length-replicate {A = ℕ} 16357 0)))
 
 -- ---- all of it
 pub possible : Possible
