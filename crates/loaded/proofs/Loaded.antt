@@ -1,7 +1,7 @@
 -- A register read from a listing is, word for word, the fresh register after the inserts of its keys; so it is a
 -- reached one, and its set is the listing's pairs.
--- In order: a size with room; what loading answers; the calls' numbers; the theorem, for any size; reached; the set; the
--- same for document 01's size; P12.
+-- In order: a size with room; what loading answers; the calls' numbers; the theorem, for any size; reached; the set;
+-- the same for document 01's size; P12.
 -- Assumes nothing.
 use Prim.Native.Nat.{ℕ, zero, suc, _+_, _≤_}
 use mathlib.Core.Path.{_≡_, refl, sym, _∙_, ap, fun-ext}

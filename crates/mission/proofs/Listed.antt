@@ -2,15 +2,15 @@
 -- In order: keys within bounds, and how many there are; values; a reached register's sets; a list's keys as a listing
 -- wants them; written; read back; the record.
 -- Not here: the statements (specs/Listed.antt). Assumes nothing.
-use Prim.Native.Nat.{ℕ, zero, suc, _-_, _≤_, _<_}
+use Prim.Native.Nat.{ℕ, zero, suc, _-_, _≤_}
 use mathlib.Core.Path.{_≡_, refl, sym, _∙_, ap, subst}
 use mathlib.Core.Bool.{true}
-use mathlib.Core.List.{List, [], _∷_, map}
+use mathlib.Core.List.{List, [], _∷_}
 use native.Mathlib.Omega.{arith}
 use lib.ListN.{length, take, length-map}
-use borrow.Author.Tests.{le-leb, eq-eqb}
-use Rattle.order.specs.Set.{Pair, keyOf, Over, Rises, within, setAfter}
-use Rattle.order.specs.History.{empty, upTo, entry, setOf, members, head}
+use borrow.Author.Tests.{le-leb}
+use Rattle.order.specs.Set.{Pair, keyOf, Over, Rises, within}
+use Rattle.order.specs.History.{empty, upTo, entry, members, head}
 use Rattle.order.proofs.Tests.{ltb-cases, leb-cases}
 use Rattle.order.proofs.Frame.{members-given, given-first}
 use Rattle.order.proofs.Reading.{set-is-members}
@@ -18,7 +18,6 @@ use Rattle.terms.specs.Terms.{small}
 use Rattle.terms.specs.declared.Answer.{Answer}
 use Rattle.steps.specs.Steps.{Tables, tables}
 use Rattle.sixteen.specs.declared.Call.{Call}
-use Rattle.text.specs.Text.{largest}
 use Rattle.listing.specs.Listing.{rising, goodPairs, keyRoom, listingOf, writeOf}
 use Rattle.listing.specs.Listing.{Done, done as written-done}
 use Rattle.listing.specs.Refusals.{Good, Fit}
@@ -42,7 +41,6 @@ use Rattle.drawing.proofs.Room.{distinct-length, walk-from-head, given-covered}
 use Rattle.words.proofs.Show.{Shown, shown-inv}
 use Rattle.words.proofs.Use.{inUse, in-use-covers, in-use-length}
 use Rattle.words.proofs.Demand2.{demand-2, seen}
-use Rattle.mission.specs.Mission.{whole}
 use Rattle.mission.specs.Listed.{keysOf, valuesOf, ReadAs, Listed, mostRoom, ListedMoment}
 use Rattle.mission.proofs.Mission.{set-log, bounded, one-moment, handed}
 
@@ -188,8 +186,8 @@ module _ (t : ℕ) (list : List Pair) (F : Fine t list) (out : List ℕ) (room :
     register = filedAll 0 ks vs (freshTables ns es)
 
     loads : loadOf small bytes ns es ≡ done register (Loaded.Register (used (length ks)))
-    loads = round-trip small small-roomy t ks vs ns es (omega (arith, F .stamp)) (F .fit) (nodes, entries) out (writes .0)
-        (writes .1) (sym (writes .2))
+    loads = round-trip small small-roomy t ks vs ns es (omega (arith, F .stamp)) (F .fit) (nodes, entries) out
+        (writes .0) (writes .1) (sym (writes .2))
 
     listing : bytes ≡ listingOf t ks vs
     listing = written keyRoom t ks vs out (writes .0) (Written.Length (writes .1)) (sym (writes .2)) (writes .1) refl

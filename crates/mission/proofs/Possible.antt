@@ -2,9 +2,9 @@
 -- In order: what is opened to compute; registers on a run; Figure 1; the phases; the answers; the
 -- refusals; no table of another length; a query amid intake; its list written and read back; all of it.
 -- Not here: the statements (specs/Possible.antt). Assumes nothing.
-use Prim.Native.Nat.{ℕ, zero, suc}
-use mathlib.Core.Path.{_≡_, refl, sym, _∙_, ap, subst}
-use mathlib.Core.Logic.{_⊎_, ⊎-elim}
+use Prim.Native.Nat.{ℕ}
+use mathlib.Core.Path.{_≡_, refl, ap, subst}
+use mathlib.Core.Logic.{⊎-elim}
 use mathlib.Core.Bool.{true}
 use mathlib.Core.List.{List, [], _∷_, _++_}
 use native.Mathlib.Omega.{arith}
@@ -16,7 +16,6 @@ use Rattle.nodes.specs.Nodes.{namedNode, clearNode}
 use Rattle.terms.specs.Terms
 use Rattle.terms.specs.Terms.{outOfBounds, small, Name, nameOf, Refuses}
 use Rattle.terms.specs.declared.Op.{Op}
-use Rattle.terms.specs.declared.Answer.{Answer}
 use Rattle.steps.specs.Steps.{Done, done, walkStep, free, lockStep, insertMeets, insertCheck, linkedOf, removeCheck}
 use Rattle.steps.specs.Steps.{checkStep, layIn, insertLaid, removeLaid, insertRoom, removeRoom, heldAt, prepareStep}
 use Rattle.steps.specs.Steps.{numberStep, insertLink, removeLink, linkStep, usable, finishStep, hasSees, newestStep}
@@ -27,7 +26,7 @@ use Rattle.sixteen.specs.declared.Register.{Register}
 use Rattle.sixteen.specs.declared.Call.{Call}
 use Rattle.sixteen.specs.Sixteen.{afterStep}
 use Rattle.demands.specs.Demands.{answerOf, BadTable}
-use Rattle.demands.specs.Worked.{steps, does, whole, figureCalls}
+use Rattle.demands.specs.Worked.{does, whole, figureCalls}
 use Rattle.demands.proofs.Demand1.{demand-1-small}
 use Rattle.reached.specs.Reached.{State, recordOf, answerIn, answer, Past, noPast, Reached, fresh, on, at}
 use Rattle.reached.proofs.Tested.{inWords, allInWords, in-words, all-in-words}
