@@ -112,7 +112,7 @@ handed-fine σ h R c t n e =
     let all : Inside 1 4294967294 (setAt h t) =
     subst (Inside 1 4294967294) (bounded σ h R t (d .3 .by-now)) (inside-within 1 4294967294 (setAt h t)) in
     let part : (P : Pair → Type 0) → All P (setAt h t) → All P (h .handed (whoOf c)) =
-    λ P all. subst (All P) (sym (d .3 .keys)) (all-within P keyOf (d .0) (d .1) (setAt h t) all) in
+    λ P holds. subst (All P) (sym (d .3 .keys)) (all-within P keyOf (d .0) (d .1) (setAt h t) holds) in
     record {
       stamp = omega (arith, d .3 .by-now, demand-2 .bounds σ h R .1);
       few = omega (

@@ -1,4 +1,4 @@
--- DEMAND 2, all of it in one record, a field a sentence of the mission:
+-- DEMAND 2, all of it in one record. The mission's words:
 -- "From a fresh or loaded register, each answer, refusals apart, is the one that document 002's ordered set gives at a
 -- step document 01 names. A range query hands out, rising, exactly the keys and values present after the updates
 -- numbered up to its snapshot. A listing written and read back gives the same keys and values."
