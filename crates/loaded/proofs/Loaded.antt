@@ -1,7 +1,7 @@
 -- A register read from a listing is, word for word, the fresh register after the inserts of its keys; so it is a
 -- reached one, and its set is the listing's pairs.
--- In order: a size with room; what loading answers; the calls' keys; the theorem, for any size; reached; the set; the
--- same for document 01's size; P12.
+-- In order: a size with room; what loading answers; the calls' numbers; the theorem, for any size; reached; the set;
+-- the same for document 01's size; P12.
 -- Assumes nothing.
 use Prim.Native.Nat.{ℕ, zero, suc, _+_, _≤_}
 use mathlib.Core.Path.{_≡_, refl, sym, _∙_, ap, fun-ext}
@@ -29,6 +29,7 @@ use Rattle.reached.proofs.History.{getD-default}
 use Rattle.text.specs.Text.{classOf, withDigit, grow, grows, numberIn, ends, linesOf, startsWith, fieldIn}
 use Rattle.text.proofs.Basics.{impossible}
 use Rattle.listing.specs.Listing.{rising}
+use Rattle.listing.specs.Refusals.{Fit}
 use Rattle.listing.proofs.Pairs.{rising-on, good-is, good-counts, good-fit}
 use Rattle.scanning.specs.Reading.{numbersIn}
 use Rattle.scanning.proofs.Cases.{empty-read}
@@ -55,18 +56,20 @@ pub record Read (z : Size) (s ns es ns′ es′ : List ℕ) (c : Counters) : Typ
   pub same : length (keysIn s) ≡ length (valuesIn s)
   pub few : length (keysIn s) ≤ z .keys
   pub up : rising 0 (keysIn s) ≡ true
+  pub values-fit : Fit (valuesIn s)
   pub filed : tables ns′ es′ ≡ filedAll 0 (keysIn s) (valuesIn s) (freshTables ns es)
   pub counters : c ≡ used (length (keysIn s))
 
 module _ (z : Size) (s ns es ns′ es′ : List ℕ) (c : Counters) where
   read-as : (ks vs : List ℕ) → ks ≡ keysIn s → vs ≡ valuesIn s → fits z ns es ≡ true → length ks ≡ length vs →
-      length ks ≤ z .keys → rising 0 ks ≡ true → tables ns′ es′ ≡ filedAll 0 ks vs (freshTables ns es) →
+      length ks ≤ z .keys → rising 0 ks ≡ true → Fit vs → tables ns′ es′ ≡ filedAll 0 ks vs (freshTables ns es) →
       c ≡ used (length ks) → Read z s ns es ns′ es′ c
-  read-as ks vs e f fit same few up filed counters = record {
+  read-as ks vs e f fit same few up values-fit filed counters = record {
     fit = fit;
     same = rw (← e, ← f) same;
     few = rw (← e) few;
     up = rw (← e) up;
+    values-fit = rw (← f) values-fit;
     filed = rw (← e, ← f) filed;
     counters = rw (← e) counters;
   }
@@ -83,9 +86,9 @@ module _ (z : Size) (s ns es ns′ es′ : List ℕ) (c : Counters) where
       (sym (ap keysIn (is .bytes) ∙ keys-back (l .stamp) (is .ks) (is .vs) (counts .0)
       (good-fit (z .keys) (is .ks) (is .vs) (is .good))))
       (sym (ap valuesIn (is .bytes) ∙ values-back (l .stamp) (is .ks) (is .vs) (counts .0) (is .values-fit)))
-      (fits-lengths z ns es (l .lengths)) (counts .0) (counts .1) (counts .2) (l .filed) (cc)
+      (fits-lengths z ns es (l .lengths)) (counts .0) (counts .1) (counts .2) (is .values-fit) (l .filed) (cc)
 
--- ---- the calls' keys are words of 32 bits
+-- ---- the calls' keys and values are words of 32 bits
 words-more : (cs ds : List Call) → AllInWords cs → AllInWords ds → AllInWords (cs ++ ds)
 words-more [] ds w v = v
 words-more (c ∷ cs) ds w v = (w .0, words-more cs ds (w .1) v)
@@ -94,17 +97,17 @@ words-steps : (n : ℕ) → AllInWords (replicate n (Call.Step 0))
 words-steps zero = tt
 words-steps (suc n) = (tt, words-steps n)
 
-filing-words : (ks vs : List ℕ) (i b : ℕ) → rising b ks ≡ true → AllInWords (filing i ks vs)
+filing-words : (ks vs : List ℕ) (i b : ℕ) → rising b ks ≡ true → Fit vs → AllInWords (filing i ks vs)
 unfolding filing
-filing-words [] vs i b up = tt
-filing-words (k ∷ ks) [] i b up = tt
-filing-words (k ∷ ks) (v ∷ vs) i b up =
+filing-words [] vs i b up fit = tt
+filing-words (k ∷ ks) [] i b up fit = tt
+filing-words (k ∷ ks) (v ∷ vs) i b up fit =
     let on = rising-on b k ks up in
     words-more (inserting i k v) (filing (i + 1) ks vs) (
-      (omega arith, omega arith),
+      (omega arith, omega arith, fit 0),
       words-more (replicate i (Call.Step 0)) (replicate 7 (Call.Step 0)) (words-steps i) (words-steps 7),
     )
-    (filing-words ks vs (i + 1) k (on .2))
+    (filing-words ks vs (i + 1) k (on .2) (λ j. fit (suc j)))
 
 -- ---- the theorem
 module _ (z : Size) (roomy : Roomy z) (updates : z .keys ≤ z .updates) (s ns es ns′ es′ : List ℕ) (c : Counters)
@@ -146,7 +149,7 @@ module _ (z : Size) (roomy : Roomy z) (updates : z .keys ≤ z .updates) (s ns e
     pastAfter z (opened ns es) (filing 0 (keysIn s) (valuesIn s)) noPast,
     rw (loaded-inserts .ends) at
         (reached-after z (opened ns es) noPast (filing 0 (keysIn s) (valuesIn s)) fresh-reached
-        (filing-words (keysIn s) (valuesIn s) 0 0 (read .up))),
+        (filing-words (keysIn s) (valuesIn s) 0 0 (read .up) (read .values-fit))),
     loaded-inserts .numbered noPast fresh-known ∙ append-nil (inserts (keysIn s) (valuesIn s)),
     fun-ext (λ who. loaded-inserts .known noPast fresh-known who ∙
         ap (λ (x : Session). x .op) (getD-default 16 who idle)),

@@ -1,24 +1,21 @@
 -- Demand 2 is not vacuous, by computing runs from a fresh register.
--- In order: what is opened to compute; calls in words; registers on a run; Figure 1; the phases; the answers; the
+-- In order: what is opened to compute; registers on a run; Figure 1; the phases; the answers; the
 -- refusals; no table of another length; a query amid intake; its list written and read back; all of it.
 -- Not here: the statements (specs/Possible.antt). Assumes nothing.
-use Prim.Native.Nat.{ℕ, zero, suc}
-use mathlib.Core.Path.{_≡_, refl, sym, _∙_, ap, subst}
-use mathlib.Core.Logic.{_⊎_, ⊎-elim}
-use mathlib.Core.Bool.{Bool, true, false, _&&_}
+use Prim.Native.Nat.{ℕ}
+use mathlib.Core.Path.{_≡_, refl, ap, subst}
+use mathlib.Core.Logic.{⊎-elim}
+use mathlib.Core.Bool.{true}
 use mathlib.Core.List.{List, [], _∷_, _++_}
 use native.Mathlib.Omega.{arith}
-use lib.Dec.{leb}
 use lib.ListN.{replicate, length-replicate}
-use borrow.Author.Tests.{leb-true}
 use Rattle.table.specs.Table.{wordOf, storeOf}
 use Rattle.order.specs.Set.{insert, remove, setAfter, put, cut}
 use Rattle.bundle.specs.Bundle.{lookOf, scanOf, holdsUp, atOf, newestOf, heldOf, layOf, finishOf}
 use Rattle.nodes.specs.Nodes.{namedNode, clearNode}
 use Rattle.terms.specs.Terms
-use Rattle.terms.specs.Terms.{outOfBounds, small, soughtOf, highOf, tailKey, Name, nameOf, Refuses}
+use Rattle.terms.specs.Terms.{outOfBounds, small, Name, nameOf, Refuses}
 use Rattle.terms.specs.declared.Op.{Op}
-use Rattle.terms.specs.declared.Answer.{Answer}
 use Rattle.steps.specs.Steps.{Done, done, walkStep, free, lockStep, insertMeets, insertCheck, linkedOf, removeCheck}
 use Rattle.steps.specs.Steps.{checkStep, layIn, insertLaid, removeLaid, insertRoom, removeRoom, heldAt, prepareStep}
 use Rattle.steps.specs.Steps.{numberStep, insertLink, removeLink, linkStep, usable, finishStep, hasSees, newestStep}
@@ -29,16 +26,15 @@ use Rattle.sixteen.specs.declared.Register.{Register}
 use Rattle.sixteen.specs.declared.Call.{Call}
 use Rattle.sixteen.specs.Sixteen.{afterStep}
 use Rattle.demands.specs.Demands.{answerOf, BadTable}
-use Rattle.demands.specs.Worked.{steps, does, whole, figureCalls}
+use Rattle.demands.specs.Worked.{does, whole, figureCalls}
 use Rattle.demands.proofs.Demand1.{demand-1-small}
-use Rattle.reached.specs.Reached.{State, recordOf, answerIn, answer, Past, noPast, InWords, Reached, fresh, on, at}
-use Rattle.listing.specs.Refusals.{Fit}
-use Rattle.reached.specs.Fair.{AllInWords}
+use Rattle.reached.specs.Reached.{State, recordOf, answerIn, answer, Past, noPast, Reached, fresh, on, at}
+use Rattle.reached.proofs.Tested.{inWords, allInWords, in-words, all-in-words}
 use Rattle.words.proofs.Demand2.{seen}
 use Rattle.mission.specs.Runs
 use Rattle.mission.specs.Runs.{run, pastOf, Kind, kindOf}
 use Rattle.mission.specs.Mission.{begun, begunPast}
-use Rattle.mission.specs.Listed.{valuesOf, Listed}
+use Rattle.mission.specs.Listed.{Listed}
 use Rattle.mission.specs.Possible.{begin, Stands, Answers, Refused, meanwhile, Query, query, Possible}
 use Rattle.mission.proofs.Mission.{run-reached}
 use Rattle.mission.proofs.Listed.{listed-moment}
@@ -51,29 +47,6 @@ unfolding wordOf storeOf lookOf scanOf holdsUp atOf newestOf heldOf layOf finish
     removeRoom heldAt prepareStep numberStep insertLink removeLink linkStep usable finishStep hasSees newestStep
     rangeSees followStep handStep fits freshNodes freshEntries freshOf badKey began startOf stepOf at
 opened-up = 0
-
--- ---- calls in words, by computing
-abbrev inWords : Call → Bool
-inWords (Call.Start who op) = leb (soughtOf op) tailKey && leb (highOf op) tailKey
-inWords (Call.Step who) = true
-
-abbrev allInWords : List Call → Bool
-allInWords [] = true
-allInWords (c ∷ calls) = inWords c && allInWords calls
-
-both : (a b : Bool) → (a && b) ≡ true → (a ≡ true) × (b ≡ true)
-both true b e = (refl, e)
-both false b e = let z : _≡_ {A = ℕ} 0 1 = cc in absurd (omega arith)
-
-in-words : (c : Call) → inWords c ≡ true → InWords c
-in-words (Call.Start who op) e = let d = both (leb (soughtOf op) tailKey) (leb (highOf op) tailKey) e in
-    (leb-true (soughtOf op) tailKey (d .0), leb-true (highOf op) tailKey (d .1))
-in-words (Call.Step who) e = tt
-
-all-in-words : (calls : List Call) → allInWords calls ≡ true → AllInWords calls
-all-in-words [] e = tt
-all-in-words (c ∷ calls) e = let d = both (inWords c) (allInWords calls) e in
-    (in-words c (d .0), all-in-words calls (d .1))
 
 -- ---- registers on a run from the fresh one
 begin-reached : Reached small begin noPast
@@ -180,10 +153,6 @@ query-list : query ≡ (20, 7) ∷ []
 unfolding opened-up
 query-list = refl
 
-seven-fits : Fit (7 ∷ [])
-seven-fits zero = omega arith
-seven-fits (suc i) = omega arith
-
 loaded : Listed 1 query (replicate 16357 0) ((20, 7) ∷ [])
 loaded =
     let σ = begun begin noPast 1 1 4294967294 meanwhile in
@@ -192,8 +161,7 @@ loaded =
     (query-ends .in-words .1) in
     subst (Listed 1 query (replicate 16357 0)) query-list
     (listed-moment .any-range (run σ meanwhile) (pastOf σ h meanwhile) R (Call.Step 1) 1 1 (query-ends .ended)
-    (subst (λ r. Fit (valuesOf r)) (sym query-list) seven-fits) (replicate 16357 0)
-    (omega (arith, length-replicate {A = ℕ} 16357 0)))
+    (replicate 16357 0) (omega (arith, length-replicate {A = ℕ} 16357 0)))
 
 -- ---- all of it
 pub possible : Possible

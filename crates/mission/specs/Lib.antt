@@ -1,5 +1,6 @@
--- Demand 2 in the mission's own words. In order: Runs, Mission, Listed, Possible.
+-- Demand 2 in the mission's own words. In order: Runs, Mission, Listed, Demand2, Possible.
 pub mod Runs
 pub mod Mission
 pub mod Listed
+pub mod Demand2
 pub mod Possible

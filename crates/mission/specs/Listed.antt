@@ -1,7 +1,6 @@
 -- A list written as a listing and read back is the same register: its keys and values, at the list's one moment.
 -- In order: a list's keys and values; a list written and read back; room for any listing; the sentence.
--- The values are words of 32 bits, as every number of a program is: a reached register's calls say that of their keys
--- alone. Not here: the proof (proofs/Listed.antt). Assumes nothing.
+-- Not here: the proof (proofs/Listed.antt). Assumes nothing.
 use Prim.Native.Nat.{ℕ, _≤_}
 use mathlib.Core.Path.{_≡_}
 use mathlib.Core.List.{List, map}
@@ -15,7 +14,6 @@ use Rattle.sixteen.specs.declared.Call.{Call}
 use Rattle.sixteen.specs.Sixteen.{freshRegister}
 use Rattle.listing.specs.Listing.{keyRoom, writeOf}
 use Rattle.listing.specs.Listing.{done as written}
-use Rattle.listing.specs.Refusals.{Fit}
 use Rattle.listing.specs.declared.Written.{Written}
 use Rattle.loading.specs.Loading.{done, loadOf}
 use Rattle.loading.specs.declared.Loaded.{Loaded}
@@ -58,9 +56,9 @@ mostRoom = 16357
 pub record ListedMoment : Type 0 where
   -- a range's: what it handed out
   pub any-range : (σ : State) (h : Past) → Reached small σ h → (c : Call) (t n : ℕ)
-      → answer small σ c ≡ Answer.End t n → Fit (valuesOf (h .handed (whoOf c)))
+      → answer small σ c ≡ Answer.End t n
       → (out : List ℕ) → mostRoom ≤ length out → Listed t (h .handed (whoOf c)) out (h .handed (whoOf c))
   -- the whole range's: the set after T updates, which is the register at one moment
   pub whole-range : (σ : State) (h : Past) → Reached small σ h → (c : Call) (t n : ℕ) → h .under (whoOf c) ≡ whole
-      → answer small σ c ≡ Answer.End t n → Fit (valuesOf (h .handed (whoOf c)))
+      → answer small σ c ≡ Answer.End t n
       → (out : List ℕ) → mostRoom ≤ length out → Listed t (h .handed (whoOf c)) out (setAt h t)

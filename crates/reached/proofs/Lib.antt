@@ -1,2 +1,4 @@
--- Laws of the history that calls give.
+-- Laws of the history that calls give, and of the calls' numbers. In order: History, Values, Tested.
 pub mod History
+pub mod Values
+pub mod Tested

@@ -64,7 +64,7 @@ Open q low high l = l .past .under q ≡ Op.Range low high
 abbrev pub given : State → ℕ
 given σ = σ .register .counters .nodes - 2
 
--- every call's keys are 32-bit words
+-- every call's keys and value are 32-bit words
 abbrev pub AllInWords : List Call → Type 0
 AllInWords [] = Unit {0}
 AllInWords (c ∷ cs) = InWords c × AllInWords cs

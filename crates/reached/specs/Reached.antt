@@ -1,6 +1,6 @@
 -- A register reached from a fresh one by starts and steps, and the history that its calls give.
--- In order: a register's state; a call's effect and answer; the history; what a call adds to it; a call's keys;
--- reached.
+-- In order: a register's state; a call's effect and answer; the history; what a call adds to it; a call's
+-- numbers; reached.
 -- The history is computed from the calls, their answers and the stamp alone: no session's record is in it, and nothing
 -- of an invariant.
 -- Not here: a register read from a listing, which is a reached one by theorem. Assumes nothing.
@@ -10,7 +10,7 @@ use mathlib.Core.Bool.{cond}
 use mathlib.Core.List.{List, [], _∷_, _++_}
 use lib.Dec.{ltb, eqb}
 use Rattle.order.specs.Set.{Pair, Update, insert, remove}
-use Rattle.terms.specs.Terms.{soughtOf, highOf, tailKey}
+use Rattle.terms.specs.Terms.{soughtOf, highOf, valueOf}
 use Rattle.terms.specs.declared.Size.{Size}
 use Rattle.terms.specs.declared.Counters.{Counters}
 use Rattle.terms.specs.declared.Op.{Op}
@@ -138,9 +138,12 @@ note z σ c h = record {
   handed = handedBy (answer z σ c) (whoOf c) (h .handed);
 }
 
--- ---- the keys of a call are words of 32 bits, of which the tail's key is the greatest: every number of a program is
+-- ---- a call's keys and its value are words of 32 bits, as every number of a program is
+abbrev pub Word : ℕ → Type 0
+Word n = n ≤ 4294967295
+
 abbrev pub InWords : Call → Type 0
-InWords (Call.Start who op) = (soughtOf op ≤ tailKey) × (highOf op ≤ tailKey)
+InWords (Call.Start who op) = Word (soughtOf op) × Word (highOf op) × Word (valueOf op)
 InWords (Call.Step who) = Unit {0}
 
 -- ---- reached: from tables that fresh has opened, by starts and steps, each on what the last one left

@@ -13,10 +13,10 @@ use native.Mathlib.Omega.{arith}
 use lib.ListN.{length}
 use Rattle.order.specs.History.{empty}
 use Rattle.nodes.specs.Nodes.{keyAt, valueAt}
-use Rattle.terms.specs.Terms.{small, soughtOf, highOf, tailKey}
+use Rattle.terms.specs.Terms.{small, soughtOf, highOf, valueOf}
 use Rattle.terms.specs.declared.Answer.{Answer}
 use Rattle.sixteen.specs.declared.Call.{Call}
-use Rattle.reached.specs.Reached.{State, InWords}
+use Rattle.reached.specs.Reached.{State, Word, InWords}
 use Rattle.reached.specs.Fair.{Lived, goOn, reply, whose, Busy, Open, given, AllInWords}
 use Rattle.drawing.specs.Drawing.{Drawing}
 use Rattle.drawing.proofs.Inv.{Inv}
@@ -49,8 +49,15 @@ both (yes p) (yes q) = yes (p, q)
 both (yes p) (no n) = no (λ b. n (b .1))
 both (no n) q = no (λ b. n (b .0))
 
+dec-word : (n : ℕ) → Dec (Word n)
+dec-word n = decLe n 4294967295
+
 dec-words : (c : Call) → Dec (InWords c)
-dec-words (Call.Start who op) = both (decLe (soughtOf op) tailKey) (decLe (highOf op) tailKey)
+dec-words (Call.Start who op) =
+    elim (both (dec-word (soughtOf op)) (both (dec-word (highOf op)) (dec-word (valueOf op)))) [
+      | yes w ↦ yes (w .0, w .1 .0, w .1 .1)
+      | no n ↦ no (λ w. n (w .0, (w .1, w .2)))
+    ]
 dec-words (Call.Step who) = yes tt
 
 module _ (key val : ℕ → ℕ) where

@@ -13,9 +13,10 @@ use Rattle.terms.specs.declared.Answer.{Answer}
 use Rattle.sixteen.specs.declared.Call.{Call}
 use Rattle.reached.specs.Reached.{InWords, on}
 use Rattle.reached.specs.Fair.{Lived, goOn, reply, whose, Busy, given, AllInWords}
+use Rattle.reached.proofs.Tested.{all-in-words}
 use Rattle.fairness.specs.Calls.{after, Along, steps, Fair}
 use Rattle.starving.proofs.Reaches.{Reaches, calls-reach}
-use Rattle.starving.proofs.Tested.{all-wordly, passesTest, tested-fair}
+use Rattle.starving.proofs.Tested.{passesTest, tested-fair}
 use Rattle.starving.proofs.Waits.{opened-up, begin, begin-reached}
 
 -- ---- the bound that it would be: demand 3's sentence for has
@@ -53,14 +54,14 @@ calls = Call.Step 1 ∷ Call.Step 1 ∷ Call.Start 1 (Op.Insert 5 7) ∷ Call.St
     ∷ (replicate 3 (Call.Step 1) ++ (threes ++ again))
 
 locked-reached : Reaches locked
-locked-reached = calls-reach begin begin-reached first (all-wordly first refl)
+locked-reached = calls-reach begin begin-reached first (all-in-words first refl)
 
 has-started : reply locked (Call.Start 0 (Op.Has 9)) ≡ Answer.Started
 unfolding opened-up
 has-started = refl
 
 asked-reached : Reaches asked
-asked-reached = on locked-reached (Call.Start 0 (Op.Has 9)) (omega arith, omega arith)
+asked-reached = on locked-reached (Call.Start 0 (Op.Has 9)) (omega arith, omega arith, omega arith)
 
 -- ---- IT IS FAIR FOR FOUR
 passes : passesTest 4 asked calls ≡ true
@@ -68,7 +69,7 @@ unfolding opened-up
 passes = refl
 
 pub four-fair : Fair goOn whose Busy 4 asked calls
-four-fair = tested-fair 4 (omega arith) asked asked-reached calls (all-wordly calls refl) passes
+four-fair = tested-fair 4 (omega arith) asked asked-reached calls (all-in-words calls refl) passes
 
 -- ---- the query is open all along
 abbrev ops : Lived → List Call → List Op
@@ -98,6 +99,6 @@ one-node = refl
 
 pub has-unbounded : ¬ HasBound
 has-unbounded bound =
-    let few = bound locked locked-reached 0 9 (omega arith, omega arith) has-started 4 calls
-    (all-wordly calls refl) still-open four-fair in
+    let few = bound locked locked-reached 0 9 (omega arith, omega arith, omega arith) has-started 4 calls
+    (all-in-words calls refl) still-open four-fair in
     omega (arith, few, counted-36, one-node)

@@ -1,17 +1,15 @@
 -- Calls to a register that a computed test finds fair, for any window.
--- In order: calls whose keys are words; a test of each session; fair calls.
+-- In order: a test of each session; fair calls.
 -- Not here: the test of one session (Spaced). Assumes nothing.
 use Prim.Native.Nat.{ℕ, zero, suc, _<_}
 use mathlib.Core.Path.{_≡_, refl, _∙_, ap, subst}
 use mathlib.Core.Logic.{_≢_}
 use mathlib.Core.Bool.{Bool, true, false, cond}
-use mathlib.Core.List.{List, [], _∷_, _++_}
+use mathlib.Core.List.{List, _++_}
 use native.Mathlib.Decide.{ℕ-discrete}
 use native.Mathlib.Omega.{arith}
-use lib.Dec.{leb}
-use borrow.Author.Tests.{leb-true}
 use Rattle.nodes.specs.Nodes.{keyAt, valueAt}
-use Rattle.terms.specs.Terms.{soughtOf, highOf, tailKey, namesOf}
+use Rattle.terms.specs.Terms.{namesOf}
 use Rattle.terms.specs.declared.Op.{Op}
 use Rattle.sixteen.specs.declared.Call.{Call}
 use Rattle.reached.specs.Fair.{Lived, goOn, whose, Busy, AllInWords}
@@ -21,25 +19,6 @@ use Rattle.words.proofs.Whole.{reached-shown}
 use Rattle.starving.proofs.Reaches.{Reaches, calls-reach, words-front}
 use Rattle.starving.proofs.Words.{busy-drawn}
 use Rattle.starving.proofs.Spaced.{true-false, spaced, spaced-serves}
-
--- ---- calls whose keys are words, by a test
-abbrev pub wordly : List Call → Bool
-wordly [] = true
-wordly (Call.Start who op ∷ calls) =
-    cond (leb (soughtOf op) tailKey) (cond (leb (highOf op) tailKey) (wordly calls) false) false
-wordly (Call.Step who ∷ calls) = wordly calls
-
-both-true : (a b : Bool) → cond a b false ≡ true → (a ≡ true) × (b ≡ true)
-both-true true b e = (refl, e)
-both-true false b e = true-false e
-
-pub all-wordly : (calls : List Call) → wordly calls ≡ true → AllInWords calls
-all-wordly [] e = tt
-all-wordly (Call.Start who op ∷ calls) e =
-    let s = both-true (leb (soughtOf op) tailKey) _ e in
-    let h = both-true (leb (highOf op) tailKey) (wordly calls) (s .1) in
-    ((leb-true (soughtOf op) tailKey (s .0), leb-true (highOf op) tailKey (h .0)), all-wordly calls (h .1))
-all-wordly (Call.Step who ∷ calls) e = (tt, all-wordly calls e)
 
 -- ---- a test of each session
 abbrev pub allBelow : ℕ → (ℕ → Bool) → Bool

@@ -22,14 +22,15 @@ use Rattle.register.specs.Register.{fits, freshNodes, freshEntries, freshCounte
 use Rattle.register.specs.Register.{stepOf}
 use Rattle.sixteen.specs.Sixteen.{freshRegister}
 use Rattle.sixteen.specs.declared.Call.{Call}
-use Rattle.reached.specs.Reached.{noPast, at, fresh, on}
+use Rattle.reached.specs.Reached.{noPast, at, InWords, fresh, on}
 use Rattle.reached.specs.Fair.{Lived, goOn, reply, whose, Busy, Open, given, AllInWords, begun, Begins, FairFor}
 use Rattle.reached.specs.Fair.{InTime, EndsWell}
+use Rattle.reached.proofs.Tested.{in-words, all-in-words}
 use Rattle.fairness.specs.Calls.{after, steps}
 use Rattle.fairness.proofs.Ended.{fair-while}
 use Rattle.starving.proofs.Demand3.{demand-3}
 use Rattle.starving.proofs.Reaches.{Reaches, calls-reach}
-use Rattle.starving.proofs.Tested.{all-wordly, passesTest, tested-fair}
+use Rattle.starving.proofs.Tested.{passesTest, tested-fair}
 use Rattle.starving.proofs.Possible.{round, premise, served-in-turn}
 
 -- ---- every definition that a call computes with
@@ -84,15 +85,17 @@ unfolding freshOf fits
 begin-reached = fresh (replicate 3072 0) (replicate 8192 0) _ _ freshCounters refl
 
 prepared-reached : Reaches prepared
-prepared-reached = calls-reach begin begin-reached preparing (all-wordly preparing refl)
+prepared-reached = calls-reach begin begin-reached preparing (all-in-words preparing refl)
 
 asked-started : reply prepared (Call.Start 1 (Op.Range 1 100)) ≡ Answer.Started
 unfolding opened-up
 asked-started = refl
 
+range-words : InWords (Call.Start 1 (Op.Range 1 100))
+range-words = in-words (Call.Start 1 (Op.Range 1 100)) refl
+
 asked-begins : Begins prepared 1 1 100
-asked-begins =
-    record { reached = prepared-reached; in-words = (omega arith, omega arith); started = asked-started }
+asked-begins = record { reached = prepared-reached; in-words = range-words; started = asked-started }
 
 pub in-turn-fair : FairFor prepared 1 1 100 16 (round 1 81)
 in-turn-fair = premise prepared 1 1 100 asked-begins 16 1 81 (omega arith)
@@ -134,26 +137,26 @@ unfolding opened-up
 whole-case-allowed = refl
 
 halfway-reached : Reaches halfway
-halfway-reached = calls-reach begin begin-reached lines (all-wordly lines refl)
+halfway-reached = calls-reach begin begin-reached lines (all-in-words lines refl)
 
 again-started : reply halfway (Call.Start 1 (Op.Range 1 100)) ≡ Answer.Started
 unfolding opened-up
 again-started = refl
 
 rest-words : AllInWords rest
-rest-words = all-wordly rest refl
+rest-words = all-in-words rest refl
 
 rest-passes : passesTest 4 asked-again rest ≡ true
 unfolding opened-up
 rest-passes = refl
 
 again-begins : Begins halfway 1 1 100
-again-begins = record { reached = halfway-reached; in-words = (omega arith, omega arith); started = again-started }
+again-begins = record { reached = halfway-reached; in-words = range-words; started = again-started }
 
 pub whole-case-fair : FairFor halfway 1 1 100 4 rest
 whole-case-fair = fair-while goOn whose (Open 1 1 100) Busy 4 asked-again rest
     (tested-fair 4 (omega arith) asked-again
-    (on halfway-reached (Call.Start 1 (Op.Range 1 100)) (omega arith, omega arith)) rest rest-words rest-passes)
+    (on halfway-reached (Call.Start 1 (Op.Range 1 100)) range-words) rest rest-words rest-passes)
 
 pub whole-case-in-time : InTime halfway 1 1 100 4 rest × EndsWell halfway 1 1 100 4 rest
 whole-case-in-time = demand-3 .in-time halfway 1 1 100 again-begins 4 rest rest-words whole-case-fair

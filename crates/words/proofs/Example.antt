@@ -48,7 +48,7 @@ past (suc n) = note small (after n) (Call.Step 0) (past n)
 pub reached : (n : ℕ) → Reached small (after n) (past n)
 unfolding freshOf fits
 reached zero = on (fresh (replicate 3072 0) (replicate 8192 0) _ _ freshCounters refl) (Call.Start 0 (Op.Insert 5 7))
-    (omega arith, omega arith)
+    (omega arith, omega arith, omega arith)
 reached (suc n) = on (reached n) (Call.Step 0) tt
 
 -- ---- the seventh step answers inserted 1
