@@ -255,29 +255,6 @@ fn go(
     0
 }
 
-fn step_walking(
-    nodes: &mut [u32],
-    entries: &mut [u32],
-    words: &mut [u32],
-    answer: &mut [u32],
-    who: u32,
-) -> u32
-    requires { ⌜ admitted small (now nodes) (now entries) (now words) (now answer) who ⌝ }
-    ensures { λ r. ⌜ left (now (nodes .exit)) (now (entries .exit)) (now (words .exit)) (now (answer .exit)) r
-        ≡ stepCall small (now (nodes .entry)) (now (entries .entry)) (now (words .entry)) (now (answer .entry))
-        who ⌝ }
-{
-    let w = packing::record_at(words, who);
-    match shortly::walk(nodes, w) {
-        Walked::On(next) => {
-            let p = w.phase;
-            let reply = packing::say(Answer::Working);
-            go(words, answer, who, A, p.b, B, next, reply)
-        }
-        Walked::Long => step_fully(nodes, entries, words, answer, who),
-    }
-}
-
 fn step_ranging(
     nodes: &mut [u32],
     entries: &mut [u32],
@@ -304,7 +281,53 @@ fn step_ranging(
     }
 }
 
-// A walk's way is tried for a walk alone, and a range's for the rest.
+// Any step but a walk's, and a walk's where it does not move on. It tests the lengths again because it compiles to a
+// function of its own, so that a walk's step saves no registers for a range's loop.
+fn step_otherwise(
+    nodes: &mut [u32],
+    entries: &mut [u32],
+    words: &mut [u32],
+    answer: &mut [u32],
+    who: u32,
+) -> u32
+    ensures { λ r. ⌜ left (now (nodes .exit)) (now (entries .exit)) (now (words .exit)) (now (answer .exit)) r
+        ≡ stepCall small (now (nodes .entry)) (now (entries .entry)) (now (words .entry)) (now (answer .entry))
+        who ⌝ }
+{
+    if answer.len() == 3 {
+        if right_lengths(nodes, entries, words) {
+            if who < 16 {
+                return step_ranging(nodes, entries, words, answer, who);
+            }
+        }
+    }
+    step_fully(nodes, entries, words, answer, who)
+}
+
+fn step_walking(
+    nodes: &mut [u32],
+    entries: &mut [u32],
+    words: &mut [u32],
+    answer: &mut [u32],
+    who: u32,
+) -> u32
+    requires { ⌜ admitted small (now nodes) (now entries) (now words) (now answer) who ⌝ }
+    ensures { λ r. ⌜ left (now (nodes .exit)) (now (entries .exit)) (now (words .exit)) (now (answer .exit)) r
+        ≡ stepCall small (now (nodes .entry)) (now (entries .entry)) (now (words .entry)) (now (answer .entry))
+        who ⌝ }
+{
+    let w = packing::record_at(words, who);
+    match shortly::walk(nodes, w) {
+        Walked::On(next) => {
+            let p = w.phase;
+            let reply = packing::say(Answer::Working);
+            go(words, answer, who, A, p.b, B, next, reply)
+        }
+        Walked::Long => step_otherwise(nodes, entries, words, answer, who),
+    }
+}
+
+// A walk's way is tried for a walk alone.
 fn step_shortly(
     nodes: &mut [u32],
     entries: &mut [u32],
@@ -320,7 +343,7 @@ fn step_shortly(
     if packing::phase_number(words, who) == 1 {
         return step_walking(nodes, entries, words, answer, who);
     }
-    step_ranging(nodes, entries, words, answer, who)
+    step_otherwise(nodes, entries, words, answer, who)
 }
 
 // By a short way where one leads: nearly all steps are a walk's or a range's. Each other way calls by itself, which
@@ -342,11 +365,11 @@ pub extern "C" fn ravencrumb_step(
             if who < 16 {
                 return step_shortly(nodes, entries, words, answer, who);
             }
-            return step_fully(nodes, entries, words, answer, who);
+            return step_otherwise(nodes, entries, words, answer, who);
         }
-        return step_fully(nodes, entries, words, answer, who);
+        return step_otherwise(nodes, entries, words, answer, who);
     }
-    step_fully(nodes, entries, words, answer, who)
+    step_otherwise(nodes, entries, words, answer, who)
 }
 
 // Puts how many pairs are filled and how many steps were made behind an answer, and returns what the call returns.
