@@ -1,0 +1,191 @@
+-- What fresh, start and step of the library make of a held register: what document 01's calls do.
+-- In order: what a call leaves of the sixteen records; a step; a start; fresh.
+-- Not here: several steps (Strides), reading (Read). Assumes nothing.
+use Prim.Native.Nat.{ℕ, _<_}
+use mathlib.Core.Path.{_≡_, refl, sym, _∙_, ap}
+use mathlib.Core.Logic.{_≢_}
+use mathlib.Core.Bool.{Bool, true, false, cond}
+use mathlib.Core.List.{List}
+use native.Mathlib.Omega.{arith}
+use lib.ListN.{length, replicate, length-replicate}
+use lib.Dec.{eqb}
+use borrow.Author.Tests.{eqb-true}
+use Rattle.terms.specs.Terms.{small}
+use Rattle.terms.specs.declared.Counters.{Counters}
+use Rattle.terms.specs.declared.Refusal.{Refusal}
+use Rattle.steps.specs.Steps.{Done, done, idle}
+use Rattle.register.specs.declared.Opened.{Opened}
+use Rattle.register.specs.Register.{fits, opened, freshNodes, freshEntries, freshCounters, freshOf, stepOf}
+use Rattle.sixteen.specs.declared.Register.{Register}
+use Rattle.sixteen.specs.declared.Call.{Call}
+use Rattle.sixteen.specs.Sixteen.{Left, served}
+use Rattle.sixteen.specs.Sixteen.{afterStep as servedStep}
+use Rattle.demands.specs.Demands.{returned, sessionsOf, whoOf, ownRecord, ServeDemand}
+use Rattle.demands.proofs.Demand1.{demand-1-small}
+use Rattle.reached.specs.Reached.{State, recordOf, stateIn, answerIn, called, go, noPast, Reached}
+use Rattle.reached.specs.Reached.{fresh as reached-fresh}
+use Rattle.reached.proofs.History.{getD-default}
+use Rattle.encoding.specs.Encoding.{encode, opFrom}
+use Rattle.packing.specs.Packing.{replyOf, numberOf, putReply, putRecord, freshWords}
+use Rattle.packing.proofs.Same.{counters-same}
+use Rattle.exchange.specs.Exchange.{left}
+use Rattle.ffi.specs.Ffi.{kept, cleared, afterFresh, freshCall, heard, startRecord, startCall}
+use Rattle.ffi.specs.Ffi.{afterStep, stepRecord, stepCall}
+use Rattle.driven.specs.Driven.{Holds, Did, allIdle, FreshIs, StartIs, StepIs}
+use Rattle.driven.proofs.Words.{counters-length, counters-put, fresh-blank}
+use Rattle.driven.proofs.Holding.{decoded, kept-holds, step-of-record, start-of-record}
+
+-- ---- the sixteen records behind a call: its own session's, and the others
+sessions-in : (l : Left) → stateIn l .register .sessions ≡ sessionsOf l
+sessions-in (served ns es r) = refl
+
+module _ (σ : State) (call : Call) (sixteen : length (σ .register .sessions) ≡ 16) where
+  D : ServeDemand small (σ .nodes) (σ .entries) (σ .register) call
+  D = demand-1-small .serve (σ .nodes) (σ .entries) (σ .register) call
+
+  pub own-behind : whoOf call < 16
+      → recordOf (go small σ call) (whoOf call) ≡ ownRecord small (σ .nodes) (σ .entries) (σ .register) call
+  own-behind known = rw (sessions-in (called small σ call)) (D .own (omega (arith, known, sixteen)))
+
+  pub others-behind : (w : ℕ) → w ≢ whoOf call → recordOf (go small σ call) w ≡ recordOf σ w
+  others-behind w apart = rw (sessions-in (called small σ call)) (D .others w apart)
+
+  pub as-many-behind : length (go small σ call .register .sessions) ≡ 16
+  as-many-behind = rw (sessions-in (called small σ call)) (D .as-many ∙ sixteen)
+
+-- ---- a step
+module _ (σ : State) (ws out : List ℕ) (who : ℕ) where
+  abbrev g : Register
+  g = σ .register
+
+  record Stepped (d : Done) (ns′ es′ ws′ out′ : List ℕ) (n : ℕ) : Type 0 where
+    nodes : ns′ ≡ stateIn (servedStep g who d) .nodes
+    entries : es′ ≡ stateIn (servedStep g who d) .entries
+    words : ws′ ≡ kept ws who (stateIn (servedStep g who d) .register .counters) (returned d .session)
+    answered : out′ ≡ putReply out (replyOf (answerIn (servedStep g who d)))
+    number : n ≡ numberOf (replyOf (answerIn (servedStep g who d)))
+
+  stepped : (d : Done) (ns′ es′ ws′ out′ : List ℕ) (n : ℕ) → left ns′ es′ ws′ out′ n ≡ afterStep ws out who d
+      → Stepped d ns′ es′ ws′ out′ n
+  stepped (done ns es r) ns′ es′ ws′ out′ n call =
+      record { nodes = cc; entries = cc; words = cc; answered = cc; number = cc }
+
+  -- from slices that are σ's own tables
+  module _ (H : Holds (σ .nodes) (σ .entries) ws σ) (three : length out ≡ 3) where
+    abbrev d : Done
+    d = stepOf small (σ .nodes) (σ .entries) (g .counters) who (recordOf σ who)
+
+    step-is-served : stepCall small (σ .nodes) (σ .entries) ws out who ≡ afterStep ws out who d
+    unfolding stepRecord
+    step-is-served =
+        step-of-record (σ .nodes) (σ .entries) ws out who (recordOf σ who) three (H .long)
+        (decoded (σ .nodes) (σ .entries) ws σ H who) ∙ rw (H .counters)
+
+    step-holds : Holds (go small σ (Call.Step who) .nodes) (go small σ (Call.Step who) .entries)
+        (kept ws who (go small σ (Call.Step who) .register .counters) (returned d .session))
+        (go small σ (Call.Step who))
+    step-holds =
+        kept-holds (σ .nodes) (σ .entries) ws σ H who (returned d .session) (go small σ (Call.Step who))
+        (own-behind σ (Call.Step who) (H .sixteen)) (others-behind σ (Call.Step who) (H .sixteen))
+        (as-many-behind σ (Call.Step who) (H .sixteen))
+
+    step-did : (ns′ es′ ws′ out′ : List ℕ) (n : ℕ)
+        → left ns′ es′ ws′ out′ n ≡ stepCall small (σ .nodes) (σ .entries) ws out who
+        → Did σ (Call.Step who) ns′ es′ ws′ out out′ n
+    step-did ns′ es′ ws′ out′ n call =
+        let S = stepped d ns′ es′ ws′ out′ n (call ∙ step-is-served) in
+        record {
+          holds = rw (S .nodes, S .entries, S .words) step-holds;
+          answered = S .answered;
+          number = S .number;
+        }
+
+    -- ---- a start
+    start-did : (kind first second : ℕ) (ws′ out′ : List ℕ) (n : ℕ)
+        → heard ws′ out′ n ≡ startCall small (σ .nodes) (σ .entries) ws out who kind first second
+        → Did σ (Call.Start who (opFrom kind first second)) (σ .nodes) (σ .entries) ws′ out out′ n
+    unfolding startRecord
+    start-did kind first second ws′ out′ n call =
+        let c = Call.Start who (opFrom kind first second) in
+        let s = ownRecord small (σ .nodes) (σ .entries) g c in
+        let e = call ∙ start-of-record (σ .nodes) (σ .entries) ws out who (recordOf σ who) three (H .long)
+        (decoded (σ .nodes) (σ .entries) ws σ H who) kind first second in
+        let same : putRecord ws who (encode s) ≡ kept ws who (g .counters) s =
+        ap (λ v. putRecord v who (encode s)) (sym (counters-same ws)) ∙ rw (H .counters) in
+        let words : ws′ ≡ putRecord ws who (encode s) = cc in
+        record {
+          holds = rw (words, same)
+              (kept-holds (σ .nodes) (σ .entries) ws σ H who s (go small σ c)
+              (own-behind σ c (H .sixteen)) (others-behind σ c (H .sixteen)) (as-many-behind σ c (H .sixteen)));
+          answered = cc;
+          number = cc;
+        }
+
+-- ---- from slices that hold σ
+pub own-tables : (ns es ws : List ℕ) (σ : State) → Holds ns es ws σ → Holds (σ .nodes) (σ .entries) ws σ
+own-tables ns es ws σ H = record {
+  nodes = refl;
+  entries = refl;
+  long = H .long;
+  counters = H .counters;
+  sixteen = H .sixteen;
+  records = H .records;
+}
+
+module _ (σ : State) (ns es ws out ws′ out′ : List ℕ) (who n : ℕ) where
+  pub step-is : StepIs σ ns es ws out ws′ out′ who n
+  step-is ns′ es′ H three call =
+      step-did σ ws out who (own-tables ns es ws σ H) three ns′ es′ ws′ out′ n
+      (call ∙ rw (H .nodes, H .entries))
+
+  pub start-is : StartIs σ ns es ws out ws′ out′ who n
+  start-is kind first second H three call =
+      rw (H .nodes, H .entries)
+      (start-did σ ws out who (own-tables ns es ws σ H) three kind first second ws′ out′ n
+      (call ∙ rw (H .nodes, H .entries)))
+
+-- ---- fresh
+pub idle-holds : (ns es ws : List ℕ) (c : Counters) → length ws ≡ 147
+    → Holds ns es (freshWords ws c) (allIdle ns es c)
+idle-holds ns es ws c long =
+    let blank : length (replicate {A = ℕ} (length ws) 0) ≡ length ws = length-replicate (length ws) 0 in
+    record {
+      nodes = refl;
+      entries = refl;
+      long = counters-length (replicate (length ws) 0) c ∙ blank ∙ long;
+      counters = counters-put (replicate (length ws) 0) c (omega (arith, blank, long));
+      sixteen = length-replicate 16 idle;
+      records = λ who _. fresh-blank ws c who ∙ ap encode (sym (getD-default 16 who idle));
+    }
+
+module _ (ns es ws ns′ es′ ws′ : List ℕ) where
+  fresh-tables : fits small ns es ≡ true
+      → freshOf small ns es ≡ opened (freshNodes ns) (freshEntries es) (Opened.Ready freshCounters)
+  unfolding freshOf
+  fresh-tables fit = rw fit
+
+  fresh-here : length ws ≡ 147 → fits small ns es ≡ true
+      → cleared ns′ es′ ws′ 0 ≡ cleared (freshNodes ns) (freshEntries es) (freshWords ws freshCounters) 0
+      → Holds ns′ es′ ws′ (allIdle ns′ es′ freshCounters) × Reached small (allIdle ns′ es′ freshCounters) noPast
+  fresh-here long fit call =
+      let a : ns′ ≡ freshNodes ns = cc in
+      let b : es′ ≡ freshEntries es = cc in
+      let c : ws′ ≡ freshWords ws freshCounters = cc in (
+        rw c (idle-holds ns′ es′ ws freshCounters long),
+        rw (a, b)
+            (reached-fresh ns es (freshNodes ns) (freshEntries es) freshCounters (fresh-tables fit)),
+      )
+
+  fresh-by : (b t : Bool) → eqb (length ws) 147 ≡ b → fits small ns es ≡ t
+      → cleared ns′ es′ ws′ 0 ≡ cond b (afterFresh ws (cond t
+      (opened (freshNodes ns) (freshEntries es) (Opened.Ready freshCounters))
+      (opened ns es (Opened.Refused Refusal.BadTable)))) (cleared ns es ws 7)
+      → Holds ns′ es′ ws′ (allIdle ns′ es′ freshCounters) × Reached small (allIdle ns′ es′ freshCounters) noPast
+  fresh-by true true long fit call = fresh-here (eqb-true (length ws) 147 long) fit call
+  fresh-by true false long fit call = let z : _≡_ {A = ℕ} 0 7 = cc in absurd (omega (arith, z))
+  fresh-by false t long fit call = let z : _≡_ {A = ℕ} 0 7 = cc in absurd (omega (arith, z))
+
+pub fresh-is : FreshIs
+unfolding freshCall freshOf
+fresh-is ns es ws ns′ es′ ws′ call =
+    fresh-by ns es ws ns′ es′ ws′ (eqb (length ws) 147) (fits small ns es) refl refl call

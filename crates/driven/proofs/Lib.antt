@@ -1,0 +1,8 @@
+-- A register driven through the library is a reached one.
+-- In order, each on those before: what the words read after each store; slices that go on holding a register; the
+-- calls; the theorem.
+-- Not here: definitions (specs/). Assumes nothing.
+pub mod Words
+pub mod Holding
+pub mod Calls
+pub mod Driven
