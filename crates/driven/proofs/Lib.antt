@@ -5,4 +5,5 @@
 pub mod Words
 pub mod Holding
 pub mod Calls
+pub mod Strides
 pub mod Driven

@@ -4,20 +4,26 @@
 -- `ns` and `es` are the tables, `ws` the counters' and records' words, `out` the answer's; those behind a call have a
 -- stroke.
 -- Not here: the library's calls (crate ffi), reached registers (crate reached). Assumes nothing.
-use Prim.Native.Nat.{ℕ, _<_}
+use Prim.Native.Nat.{ℕ, _+_, _-_, _≤_, _<_}
 use mathlib.Core.Path.{_≡_}
-use mathlib.Core.List.{List}
-use lib.ListN.{length}
+use mathlib.Core.Logic.{_⊎_}
+use mathlib.Core.Bool.{true, false}
+use mathlib.Core.List.{List, [], _∷_, _++_}
+use lib.ListN.{length, replicate}
 use Rattle.terms.specs.Terms.{small}
 use Rattle.terms.specs.declared.Counters.{Counters}
-use Rattle.register.specs.Register.{freshCounters}
+use Rattle.terms.specs.declared.Answer.{Answer}
+use Rattle.register.specs.Register.{fits, freshCounters}
 use Rattle.sixteen.specs.declared.Call.{Call}
 use Rattle.sixteen.specs.Sixteen.{freshRegister}
+use Rattle.fairness.specs.Calls.{after}
 use Rattle.reached.specs.Reached.{State, recordOf, go, answer, noPast, Reached}
+use Rattle.loaded.specs.Calls.{answers}
+use Rattle.several.specs.Several.{Handed, handed, saidOf, handOut, goesOn}
 use Rattle.encoding.specs.Encoding.{encode, opFrom}
 use Rattle.packing.specs.Packing.{countersAt, recordAt, replyOf, numberOf, putReply}
 use Rattle.exchange.specs.Exchange.{wordsRoom, left}
-use Rattle.ffi.specs.Ffi.{cleared, freshCall, heard, startCall, stepCall}
+use Rattle.ffi.specs.Ffi.{cleared, freshCall, heard, startCall, stepCall, tally, strode, stepsCall}
 
 -- ---- the slices hold σ: its tables, its counters, and the record of each of its sixteen sessions
 pub record Holds (ns es ws : List ℕ) (σ : State) : Type 0 where
@@ -53,8 +59,55 @@ module _ (σ : State) (ns es ws out ws′ out′ : List ℕ) (who n : ℕ) where
   StepIs = (ns′ es′ : List ℕ) → Holds ns es ws σ → length out ≡ 3
       → left ns′ es′ ws′ out′ n ≡ stepCall small ns es ws out who → Did σ (Call.Step who) ns′ es′ ws′ out out′ n
 
+-- ---- several steps: one call of session who after another, all of them steps
+-- an answer after which the call goes on: working, or a key with its value
+abbrev pub Onward : Answer → Type 0
+Onward a = (a ≡ Answer.Working) ⊎ ((k : ℕ) × (v : ℕ) × (a ≡ Answer.Key k v))
+
+abbrev pub AllOnward : List Answer → Type 0
+AllOnward [] = Unit {0}
+AllOnward (a ∷ rs) = Onward a × AllOnward rs
+
+-- the keys of answers put into the lent pairs, in order, as far as there is room
+abbrev pub handAll : Handed → List Answer → Handed
+handAll h [] = h
+handAll (handed ps n) (a ∷ rs) = handAll (handOut ps n (saidOf a)) rs
+
+abbrev pub inARow : ℕ → ℕ → List Call
+inARow made who = replicate made (Call.Step who)
+
+-- so many steps are made in a row from σ, n pairs being filled by then: one at least and `more` after it at most;
+-- every answer but the last goes on, and the last is at the limit or does not
+pub record Row (σ : State) (who more : ℕ) (ps : List ℕ) (n : ℕ) (ps′ : List ℕ) (count made : ℕ) (last : Answer) :
+    Type 0 where
+  pub before : List Answer
+  pub one : 1 ≤ made
+  pub few : made ≤ more + 1
+  pub answers : answers small σ (inARow made who) ≡ before ++ (last ∷ [])
+  pub onward : AllOnward before
+  pub pairs : handAll (handed ps n) (before ++ (last ∷ [])) ≡ handed ps′ count
+  pub stops : (made ≡ more + 1) ⊎ (goesOn ps′ count (saidOf last) ≡ false)
+
+-- the library's answer is the last one's, with how many pairs are filled and how many steps were made
+pub record Strides (σ : State) (who limit : ℕ) (ps out ns′ es′ ws′ ps′ out′ : List ℕ) (n : ℕ) : Type 0 where
+  pub made : ℕ
+  pub count : ℕ
+  pub last : Answer
+  pub row : Row σ who (limit - 1) ps 0 ps′ count made last
+  pub holds : Holds ns′ es′ ws′ (after (go small) σ (inARow made who))
+  pub answered : out′ ≡ tally (putReply out (replyOf last)) count made
+  pub number : n ≡ numberOf (replyOf last)
+
+-- where the slices have the right lengths, the answer five words, and there is such a session
+abbrev pub StepsIs : Type 0
+StepsIs = (σ : State) (ns es ws ps out ns′ es′ ws′ ps′ out′ : List ℕ) (who limit n : ℕ) → Holds ns es ws σ
+    → fits small ns es ≡ true → who < 16 → length out ≡ 5
+    → strode ns′ es′ ws′ ps′ out′ n ≡ stepsCall small ns es ws ps out who limit
+    → Strides σ who limit ps out ns′ es′ ws′ ps′ out′ n
+
 -- ---- THE THEOREM
 pub record Driven : Type 0 where
   pub fresh : FreshIs
   pub start : (σ : State) (ns es ws out ws′ out′ : List ℕ) (who n : ℕ) → StartIs σ ns es ws out ws′ out′ who n
   pub step : (σ : State) (ns es ws out ws′ out′ : List ℕ) (who n : ℕ) → StepIs σ ns es ws out ws′ out′ who n
+  pub steps : StepsIs
