@@ -6,4 +6,5 @@ pub mod Words
 pub mod Holding
 pub mod Calls
 pub mod Strides
+pub mod Read
 pub mod Driven

@@ -12,17 +12,21 @@ use mathlib.Core.List.{List, [], _∷_, _++_}
 use lib.ListN.{length, replicate}
 use Rattle.terms.specs.Terms.{small}
 use Rattle.terms.specs.declared.Counters.{Counters}
+use Rattle.terms.specs.declared.Op.{Op}
 use Rattle.terms.specs.declared.Answer.{Answer}
+use Rattle.steps.specs.Steps.{tables}
 use Rattle.register.specs.Register.{fits, freshCounters}
 use Rattle.sixteen.specs.declared.Call.{Call}
 use Rattle.sixteen.specs.Sixteen.{freshRegister}
 use Rattle.fairness.specs.Calls.{after}
-use Rattle.reached.specs.Reached.{State, recordOf, go, answer, noPast, Reached}
-use Rattle.loaded.specs.Calls.{answers}
+use Rattle.reached.specs.Reached.{State, recordOf, go, answer, Past, noPast, Reached}
+use Rattle.loading.specs.Loading.{done, loadOf}
+use Rattle.loading.specs.declared.Loaded.{Loaded}
+use Rattle.loaded.specs.Calls.{answers, inserts, keysIn, valuesIn}
 use Rattle.several.specs.Several.{Handed, handed, saidOf, handOut, goesOn}
 use Rattle.encoding.specs.Encoding.{encode, opFrom}
-use Rattle.packing.specs.Packing.{countersAt, recordAt, replyOf, numberOf, putReply}
-use Rattle.exchange.specs.Exchange.{wordsRoom, left}
+use Rattle.packing.specs.Packing.{countersAt, recordAt, replyWith, replyOf, numberOf, putReply}
+use Rattle.exchange.specs.Exchange.{wordsRoom, left, readCall}
 use Rattle.ffi.specs.Ffi.{cleared, freshCall, heard, startCall, stepCall, tally, strode, stepsCall}
 
 -- ---- the slices hold σ: its tables, its counters, and the record of each of its sixteen sessions
@@ -105,9 +109,26 @@ StepsIs = (σ : State) (ns es ws ps out ns′ es′ ws′ ps′ out′ : List �
     → strode ns′ es′ ws′ ps′ out′ n ≡ stepsCall small ns es ws ps out who limit
     → Strides σ who limit ps out ns′ es′ ws′ ps′ out′ n
 
+-- ---- reading a listing, where it returns 0: the slices hold the loaded register, a reached one whose updates so far
+-- are the inserts of the listing's keys; the answer is name 11 and the stamp
+pub record Reads (input ns es out ns′ es′ ws′ out′ : List ℕ) : Type 0 where
+  pub counters : Counters
+  pub past : Past
+  pub loads : loadOf small input ns es ≡ done (tables ns′ es′) (Loaded.Register counters)
+  pub holds : Holds ns′ es′ ws′ (allIdle ns′ es′ counters)
+  pub reached : Reached small (allIdle ns′ es′ counters) past
+  pub updates : past .updates ≡ inserts (keysIn input) (valuesIn input)
+  pub under : past .under ≡ λ who. Op.None
+  pub answered : out′ ≡ putReply out (replyWith 11 (counters .stamp) 0)
+
+abbrev pub ReadIs : Type 0
+ReadIs = (input ns es ws out ns′ es′ ws′ out′ : List ℕ)
+    → left ns′ es′ ws′ out′ 0 ≡ readCall small input ns es ws out → Reads input ns es out ns′ es′ ws′ out′
+
 -- ---- THE THEOREM
 pub record Driven : Type 0 where
   pub fresh : FreshIs
   pub start : (σ : State) (ns es ws out ws′ out′ : List ℕ) (who n : ℕ) → StartIs σ ns es ws out ws′ out′ who n
   pub step : (σ : State) (ns es ws out ws′ out′ : List ℕ) (who n : ℕ) → StepIs σ ns es ws out ws′ out′ who n
   pub steps : StepsIs
+  pub read : ReadIs
