@@ -8,3 +8,4 @@ pub mod Calls
 pub mod Strides
 pub mod Read
 pub mod Driven
+pub mod Refused

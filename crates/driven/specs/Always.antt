@@ -1,0 +1,51 @@
+-- What is so after any call of the library, whatever it is asked and whatever it returns.
+-- In order: slices that hold a reached register go on holding one; a refusal changes neither tables nor words.
+-- The first asks of a start that its two numbers are words of 32 bits, as every program's are. The second is true of
+-- any content, and of any size; full (6) is the one that differs, and several steps leave what those before the
+-- refused one did.
+-- Not here: which register a call leaves (Driven). Assumes nothing.
+use Prim.Native.Nat.{ℕ, _≤_}
+use mathlib.Core.Path.{_≡_}
+use mathlib.Core.Logic.{_≢_}
+use mathlib.Core.List.{List}
+use Rattle.terms.specs.Terms.{small, tailKey}
+use Rattle.terms.specs.declared.Size.{Size}
+use Rattle.reached.specs.Reached.{State, Past, Reached}
+use Rattle.exchange.specs.Exchange.{left, readCall}
+use Rattle.ffi.specs.Ffi.{cleared, freshCall, heard, startCall, stepCall, strode, stepsCall}
+use Rattle.driven.specs.Driven.{Holds}
+
+-- ---- slices that hold a reached register
+pub record HoldsReached (ns es ws : List ℕ) : Type 0 where
+  pub state : State
+  pub past : Past
+  pub holds : Holds ns es ws state
+  pub reached : Reached small state past
+
+pub record AlwaysReached (ns es ws : List ℕ) : Type 0 where
+  pub fresh : (ns′ es′ ws′ : List ℕ) (n : ℕ) → cleared ns′ es′ ws′ n ≡ freshCall small ns es ws
+      → HoldsReached ns′ es′ ws′
+  pub start : (out ws′ out′ : List ℕ) (who kind first second n : ℕ) → first ≤ tailKey → second ≤ tailKey
+      → heard ws′ out′ n ≡ startCall small ns es ws out who kind first second → HoldsReached ns es ws′
+  pub step : (out ns′ es′ ws′ out′ : List ℕ) (who n : ℕ)
+      → left ns′ es′ ws′ out′ n ≡ stepCall small ns es ws out who → HoldsReached ns′ es′ ws′
+  pub steps : (ps out ns′ es′ ws′ ps′ out′ : List ℕ) (who limit n : ℕ)
+      → strode ns′ es′ ws′ ps′ out′ n ≡ stepsCall small ns es ws ps out who limit → HoldsReached ns′ es′ ws′
+  pub read : (input out ns′ es′ ws′ out′ : List ℕ) (n : ℕ)
+      → left ns′ es′ ws′ out′ n ≡ readCall small input ns es ws out → HoldsReached ns′ es′ ws′
+
+-- ---- a refusal: another number than 0
+pub record Unchanged (ns es ws ns′ es′ ws′ : List ℕ) : Type 0 where
+  pub nodes : ns′ ≡ ns
+  pub entries : es′ ≡ es
+  pub words : ws′ ≡ ws
+
+pub record RefusedKeeps (z : Size) (ns es ws : List ℕ) : Type 0 where
+  pub fresh : (ns′ es′ ws′ : List ℕ) (n : ℕ) → n ≢ 0 → cleared ns′ es′ ws′ n ≡ freshCall z ns es ws
+      → Unchanged ns es ws ns′ es′ ws′
+  pub start : (out ws′ out′ : List ℕ) (who kind first second n : ℕ) → n ≢ 0
+      → heard ws′ out′ n ≡ startCall z ns es ws out who kind first second → ws′ ≡ ws
+  pub step : (out ns′ es′ ws′ out′ : List ℕ) (who n : ℕ) → n ≢ 0 → n ≢ 6
+      → left ns′ es′ ws′ out′ n ≡ stepCall z ns es ws out who → Unchanged ns es ws ns′ es′ ws′
+  pub read : (input out ns′ es′ ws′ out′ : List ℕ) (n : ℕ) → n ≢ 0
+      → left ns′ es′ ws′ out′ n ≡ readCall z input ns es ws out → Unchanged ns es ws ns′ es′ ws′
