@@ -9,3 +9,4 @@ pub mod Strides
 pub mod Read
 pub mod Driven
 pub mod Refused
+pub mod Always
