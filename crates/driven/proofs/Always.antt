@@ -2,7 +2,7 @@
 -- In order: slices that a call leaves as they were; a start's numbers; steps in a row; each call; the theorem.
 -- Assumes nothing.
 use Prim.Native.Nat.{ℕ, zero, suc, _≤_}
-use mathlib.Core.Path.{_≡_, refl, sym, _∙_, ap}
+use mathlib.Core.Path.{_≡_, refl, sym, _∙_}
 use mathlib.Core.Bool.{Bool, true, false, cond}
 use mathlib.Core.List.{List}
 use native.Mathlib.Omega.{arith}
@@ -17,11 +17,10 @@ use Rattle.sixteen.specs.declared.Call.{Call}
 use Rattle.fairness.specs.Calls.{after}
 use Rattle.reached.specs.Reached.{State, go, Past, note, InWords, Reached, on}
 use Rattle.encoding.specs.Encoding.{opFrom}
-use Rattle.packing.specs.Packing.{refusedBy, putReply}
 use Rattle.exchange.specs.Exchange.{left, readCall}
-use Rattle.ffi.specs.Ffi.{lengthsFit, cleared, freshCall, heard, startCall, stepCall, tally, strode, stepsCall}
+use Rattle.ffi.specs.Ffi.{lengthsFit, cleared, freshCall, heard, startCall, stepCall, strode, stepsCall}
 use Rattle.ffi.proofs.Ways.{start-silent, step-silent, strides-silent, strides-lengths, strides-session}
-use Rattle.driven.specs.Driven.{Holds, inARow, Did, Strides}
+use Rattle.driven.specs.Driven.{inARow, Did, Strides}
 use Rattle.driven.specs.Always.{HoldsReached, AlwaysReached, Unchanged}
 use Rattle.driven.proofs.Driven.{driven}
 use Rattle.driven.proofs.Refused.{refused-keeps}
@@ -86,7 +85,7 @@ module _ (ns es ws : List ℕ) (R : HoldsReached ns es ws) where
   always-start out ws′ out′ who kind first second n low high told = elim (ℕ-discrete (length out) 3) [
     | yes three ↦ did ns es ws R (Call.Start who (opFrom kind first second)) ns es ws′ out out′ n
         (asked who first second low high kind)
-        (driven .start (R .state) ns es ws out ws′ out′ who n kind first second (R .holds) three told)
+        (driven .start (R .state) ns es ws out ws′ out′ who kind first second n (R .holds) three told)
     | no other ↦ let e = told ∙ sym (start-silent small ns es ws out who kind first second other) in
         unchanged ns es ws ns es ws′ R (record { nodes = refl; entries = refl; words = cc })
   ]
@@ -95,7 +94,7 @@ module _ (ns es ws : List ℕ) (R : HoldsReached ns es ws) where
       → left ns′ es′ ws′ out′ n ≡ stepCall small ns es ws out who → HoldsReached ns′ es′ ws′
   always-step out ns′ es′ ws′ out′ who n told = elim (ℕ-discrete (length out) 3) [
     | yes three ↦ did ns es ws R (Call.Step who) ns′ es′ ws′ out out′ n tt
-        (driven .step (R .state) ns es ws out ws′ out′ who n ns′ es′ (R .holds) three told)
+        (driven .step (R .state) ns es ws out ns′ es′ ws′ out′ who n (R .holds) three told)
     | no other ↦ let e = told ∙ sym (step-silent small ns es ws out who other) in
         unchanged ns es ws ns′ es′ ws′ R (record { nodes = cc; entries = cc; words = cc })
   ]

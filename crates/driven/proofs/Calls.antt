@@ -132,17 +132,15 @@ own-tables ns es ws σ H = record {
   records = H .records;
 }
 
-module _ (σ : State) (ns es ws out ws′ out′ : List ℕ) (who n : ℕ) where
-  pub step-is : StepIs σ ns es ws out ws′ out′ who n
-  step-is ns′ es′ H three call =
-      step-did σ ws out who (own-tables ns es ws σ H) three ns′ es′ ws′ out′ n
-      (call ∙ rw (H .nodes, H .entries))
+pub step-is : StepIs
+step-is σ ns es ws out ns′ es′ ws′ out′ who n H three call =
+    step-did σ ws out who (own-tables ns es ws σ H) three ns′ es′ ws′ out′ n (call ∙ rw (H .nodes, H .entries))
 
-  pub start-is : StartIs σ ns es ws out ws′ out′ who n
-  start-is kind first second H three call =
-      rw (H .nodes, H .entries)
-      (start-did σ ws out who (own-tables ns es ws σ H) three kind first second ws′ out′ n
-      (call ∙ rw (H .nodes, H .entries)))
+pub start-is : StartIs
+start-is σ ns es ws out ws′ out′ who kind first second n H three call =
+    rw (H .nodes, H .entries)
+    (start-did σ ws out who (own-tables ns es ws σ H) three kind first second ws′ out′ n
+    (call ∙ rw (H .nodes, H .entries)))
 
 -- ---- fresh
 pub idle-holds : (ns es ws : List ℕ) (c : Counters) → length ws ≡ 147

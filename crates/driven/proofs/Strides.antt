@@ -1,7 +1,7 @@
 -- Several steps of the library in one call are steps of document 01 in a row.
 -- In order: one step, its key handed out; the last one; one more before; the steps; the library's call.
 -- Not here: one step alone (Calls). Assumes nothing.
-use Prim.Native.Nat.{ℕ, zero, suc, _+_, _-_, _≤_, _<_}
+use Prim.Native.Nat.{ℕ, zero, suc, _+_, _-_, _<_}
 use mathlib.Core.Path.{_≡_, refl, sym, _∙_, ap, subst}
 use mathlib.Core.Logic.{_⊎_, inl, inr, _≢_}
 use mathlib.Core.Bool.{Bool, true, false, cond}
@@ -10,9 +10,7 @@ use native.Mathlib.Omega.{arith}
 use lib.ListN.{length}
 use borrow.Author.Tests.{eq-eqb, lt-ltb}
 use Rattle.terms.specs.Terms.{small}
-use Rattle.terms.specs.declared.Counters.{Counters}
 use Rattle.terms.specs.declared.Answer.{Answer}
-use Rattle.steps.specs.declared.Session.{Session}
 use Rattle.steps.specs.declared.Stepped.{Stepped}
 use Rattle.steps.specs.Steps.{Done, done}
 use Rattle.register.specs.Register.{fits, stepOf}
@@ -24,7 +22,6 @@ use Rattle.reached.specs.Reached.{State, recordOf, stateIn, answerIn, go, answe
 use Rattle.loaded.specs.Calls.{answers}
 use Rattle.several.specs.declared.Turn.{Turn}
 use Rattle.several.specs.declared.Went.{Went}
-use Rattle.several.specs.declared.Said.{Said}
 use Rattle.several.specs.Several.{Handed, handed, saidOf, handOut, goesOn, Turned, turned, turnWith, turnBy, turnOf}
 use Rattle.several.specs.Several.{Gone, gone, nextOr, stops, goOn, severalOf}
 use Rattle.ffi.specs.Ffi.{lengthsFit, kept, strode, afterSteps, stepsRecord, stepsSession, stepsCall}
@@ -66,21 +63,26 @@ module _ (σ : State) (who : ℕ) (ps : List ℕ) (n : ℕ) (ns′ es′ ps′ :
   unfolding turnOf
   turn-facts call = turn-by d call
 
--- ---- whoever goes on has answered working or a key
-other : {a : Answer} → false ≡ true → Onward a
-other e = let z : _≡_ {A = ℕ} 0 1 = cc in absurd (omega (arith, z))
+-- ---- the call goes on after working, and after a key behind which another finds room
+no : {A : Type 0} → false ≡ true → A
+no e = let z : _≡_ {A = ℕ} 0 1 = cc in absurd (omega (arith, z))
 
-onward-answer : (ps : List ℕ) (n : ℕ) (a : Answer) → goesOn ps n (saidOf a) ≡ true → Onward a
-onward-answer ps n Answer.Started e = other e
-onward-answer ps n Answer.Working e = inl refl
-onward-answer ps n Answer.Waiting e = other e
-onward-answer ps n (Answer.Key k v) e = inr (k, v, refl)
-onward-answer ps n (Answer.Inserted m) e = other e
-onward-answer ps n (Answer.Removed m) e = other e
-onward-answer ps n Answer.Present e = other e
-onward-answer ps n Answer.Absent e = other e
-onward-answer ps n (Answer.End t m) e = other e
-onward-answer ps n (Answer.Refused why) e = other e
+module _ (ps : List ℕ) (n : ℕ) where
+  onward-answer : (a : Answer) → goesOn ps n (saidOf a) ≡ true → Onward a (handed ps n)
+  onward-answer Answer.Started e = no e
+  onward-answer Answer.Working e = inl refl
+  onward-answer Answer.Waiting e = no e
+  onward-answer (Answer.Key k v) e = inr (k, v, refl, e)
+  onward-answer (Answer.Inserted m) e = no e
+  onward-answer (Answer.Removed m) e = no e
+  onward-answer Answer.Present e = no e
+  onward-answer Answer.Absent e = no e
+  onward-answer (Answer.End t m) e = no e
+  onward-answer (Answer.Refused why) e = no e
+
+  goes-onward : (a : Answer) → Onward a (handed ps n) → goesOn ps n (saidOf a) ≡ true
+  goes-onward a (inl e) = rw e
+  goes-onward a (inr (k, v, e, room)) = rw e room
 
 abbrev onOf : Turned → Bool
 onOf (turned ns es ps t) = t .on
@@ -119,12 +121,13 @@ module _ (who : ℕ) (known : who < 16) where
         before = [];
         one = omega arith;
         few = omega arith;
-        answers = rw (T .answer);
+        say = rw (T .answer);
         onward = tt;
         pairs = rw (T .answer) (T .hands);
         stops = elim stop [
           | inl e ↦ inl e
-          | inr off ↦ inr (ap (λ a. goesOn ps₁ (t .count) (saidOf a)) (T .answer) ∙ sym (T .on) ∙ off)
+          | inr off ↦ inr (λ o. no (sym off ∙ T .on ∙ ap (λ a. goesOn ps₁ (t .count) (saidOf a)) (sym (T .answer))
+              ∙ goes-onward ps₁ (t .count) (t .answer) o))
         ];
       };
       total = refl;
@@ -146,8 +149,9 @@ module _ (who : ℕ) (known : who < 16) where
         before = answer small σ step ∷ W .row .before;
         one = omega arith;
         few = omega (arith, W .row .few);
-        answers = ap (λ l. answer small σ step ∷ l) (W .row .answers);
-        onward = (onward-answer ps₁ (t .count) (answer small σ step) (sym (T .on) ∙ on), W .row .onward);
+        say = ap (λ l. answer small σ step ∷ l) (W .row .say);
+        onward = subst (λ h. Onward (answer small σ step) h × AllOnward h (W .row .before)) (sym (T .hands))
+            (onward-answer ps₁ (t .count) (answer small σ step) (sym (T .on) ∙ on), W .row .onward);
         pairs = ap (λ h. handAll h (W .row .before ++ (r .last .answer ∷ []))) (T .hands) ∙ W .row .pairs;
         stops = elim (W .row .stops) [
           | inl e ↦ inl (omega (arith, e))

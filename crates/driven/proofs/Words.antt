@@ -3,7 +3,7 @@
 -- A record's words lie at 3 to 11 of nine a row: rows overlap, places do not.
 -- Not here: which register they hold (Holding). Assumes nothing.
 use Prim.Native.Nat.{ℕ, _+_, _*_, _≤_, _<_}
-use mathlib.Core.Path.{_≡_, refl, sym, _∙_, ap}
+use mathlib.Core.Path.{_≡_, sym, _∙_}
 use mathlib.Core.Logic.{_≢_}
 use mathlib.Core.List.{List}
 use native.Mathlib.Omega.{arith}
@@ -15,8 +15,6 @@ use Rattle.table.proofs.Ways.{word-past}
 use Rattle.terms.specs.declared.Counters.{Counters}
 use Rattle.steps.specs.Steps.{idle}
 use Rattle.reached.proofs.History.{getD-default}
-use Rattle.encoding.specs.declared.OpWords.{OpWords}
-use Rattle.encoding.specs.declared.PhaseWords.{PhaseWords}
 use Rattle.encoding.specs.declared.Words.{Words}
 use Rattle.encoding.specs.Encoding.{kindWith, phaseWith, encode}
 use Rattle.packing.specs.Packing.{countersAt, putCounters, opAt, phaseAt, recordAt, putOp, putFront, putBack}

@@ -7,7 +7,7 @@
 use Prim.Native.Nat.{ℕ, _+_, _-_, _≤_, _<_}
 use mathlib.Core.Path.{_≡_}
 use mathlib.Core.Logic.{_⊎_}
-use mathlib.Core.Bool.{true, false}
+use mathlib.Core.Bool.{true}
 use mathlib.Core.List.{List, [], _∷_, _++_}
 use lib.ListN.{length, replicate}
 use Rattle.terms.specs.Terms.{small}
@@ -23,7 +23,8 @@ use Rattle.reached.specs.Reached.{State, recordOf, go, answer, Past, noPast, Re
 use Rattle.loading.specs.Loading.{done, loadOf}
 use Rattle.loading.specs.declared.Loaded.{Loaded}
 use Rattle.loaded.specs.Calls.{answers, inserts, keysIn, valuesIn}
-use Rattle.several.specs.Several.{Handed, handed, saidOf, handOut, goesOn}
+use Rattle.onward.specs.Onward.{hasRoom}
+use Rattle.several.specs.Several.{Handed, handed, saidOf, handOut}
 use Rattle.encoding.specs.Encoding.{encode, opFrom}
 use Rattle.packing.specs.Packing.{countersAt, recordAt, replyWith, replyOf, numberOf, putReply}
 use Rattle.exchange.specs.Exchange.{wordsRoom, left, readCall}
@@ -52,45 +53,44 @@ abbrev pub FreshIs : Type 0
 FreshIs = (ns es ws ns′ es′ ws′ : List ℕ) → cleared ns′ es′ ws′ 0 ≡ freshCall small ns es ws
     → Holds ns′ es′ ws′ (allIdle ns′ es′ freshCounters) × Reached small (allIdle ns′ es′ freshCounters) noPast
 
--- ---- start and step, of any session and any operation's words, where the answer has three words
-module _ (σ : State) (ns es ws out ws′ out′ : List ℕ) (who n : ℕ) where
-  abbrev pub StartIs : Type 0
-  StartIs = (kind first second : ℕ) → Holds ns es ws σ → length out ≡ 3
-      → heard ws′ out′ n ≡ startCall small ns es ws out who kind first second
-      → Did σ (Call.Start who (opFrom kind first second)) ns es ws′ out out′ n
+-- ---- start and step, of any session and with any numbers, where the answer has three words
+abbrev pub StartIs : Type 0
+StartIs = (σ : State) (ns es ws out ws′ out′ : List ℕ) (who kind first second n : ℕ) → Holds ns es ws σ
+    → length out ≡ 3 → heard ws′ out′ n ≡ startCall small ns es ws out who kind first second
+    → Did σ (Call.Start who (opFrom kind first second)) ns es ws′ out out′ n
 
-  abbrev pub StepIs : Type 0
-  StepIs = (ns′ es′ : List ℕ) → Holds ns es ws σ → length out ≡ 3
-      → left ns′ es′ ws′ out′ n ≡ stepCall small ns es ws out who → Did σ (Call.Step who) ns′ es′ ws′ out out′ n
+abbrev pub StepIs : Type 0
+StepIs = (σ : State) (ns es ws out ns′ es′ ws′ out′ : List ℕ) (who n : ℕ) → Holds ns es ws σ → length out ≡ 3
+    → left ns′ es′ ws′ out′ n ≡ stepCall small ns es ws out who → Did σ (Call.Step who) ns′ es′ ws′ out out′ n
 
--- ---- several steps: one call of session who after another, all of them steps
--- an answer after which the call goes on: working, or a key with its value
-abbrev pub Onward : Answer → Type 0
-Onward a = (a ≡ Answer.Working) ⊎ ((k : ℕ) × (v : ℕ) × (a ≡ Answer.Key k v))
-
-abbrev pub AllOnward : List Answer → Type 0
-AllOnward [] = Unit {0}
-AllOnward (a ∷ rs) = Onward a × AllOnward rs
+-- ---- several steps: one step of session who after another
+abbrev pub inARow : ℕ → ℕ → List Call
+inARow made who = replicate made (Call.Step who)
 
 -- the keys of answers put into the lent pairs, in order, as far as there is room
 abbrev pub handAll : Handed → List Answer → Handed
 handAll h [] = h
 handAll (handed ps n) (a ∷ rs) = handAll (handOut ps n (saidOf a)) rs
 
-abbrev pub inARow : ℕ → ℕ → List Call
-inARow made who = replicate made (Call.Step who)
+-- the call goes on after working, and after a key behind which another finds room
+abbrev pub Onward : Answer → Handed → Type 0
+Onward a (handed ps n) = (a ≡ Answer.Working) ⊎ ((k : ℕ) × (v : ℕ) × (a ≡ Answer.Key k v) × (hasRoom ps n ≡ true))
 
--- so many steps are made in a row from σ, n pairs being filled by then: one at least and `more` after it at most;
+abbrev pub AllOnward : Handed → List Answer → Type 0
+AllOnward h [] = Unit {0}
+AllOnward (handed ps n) (a ∷ rs) = Onward a (handOut ps n (saidOf a)) × AllOnward (handOut ps n (saidOf a)) rs
+
+-- so many steps are made in a row from σ, n pairs being filled before them: one at least and `more` after it at most;
 -- every answer but the last goes on, and the last is at the limit or does not
 pub record Row (σ : State) (who more : ℕ) (ps : List ℕ) (n : ℕ) (ps′ : List ℕ) (count made : ℕ) (last : Answer) :
     Type 0 where
   pub before : List Answer
   pub one : 1 ≤ made
   pub few : made ≤ more + 1
-  pub answers : answers small σ (inARow made who) ≡ before ++ (last ∷ [])
-  pub onward : AllOnward before
+  pub say : answers small σ (inARow made who) ≡ before ++ (last ∷ [])
+  pub onward : AllOnward (handed ps n) before
   pub pairs : handAll (handed ps n) (before ++ (last ∷ [])) ≡ handed ps′ count
-  pub stops : (made ≡ more + 1) ⊎ (goesOn ps′ count (saidOf last) ≡ false)
+  pub stops : (made ≡ more + 1) ⊎ (¬ Onward last (handed ps′ count))
 
 -- the library's answer is the last one's, with how many pairs are filled and how many steps were made
 pub record Strides (σ : State) (who limit : ℕ) (ps out ns′ es′ ws′ ps′ out′ : List ℕ) (n : ℕ) : Type 0 where
@@ -128,7 +128,7 @@ ReadIs = (input ns es ws out ns′ es′ ws′ out′ : List ℕ)
 -- ---- THE THEOREM
 pub record Driven : Type 0 where
   pub fresh : FreshIs
-  pub start : (σ : State) (ns es ws out ws′ out′ : List ℕ) (who n : ℕ) → StartIs σ ns es ws out ws′ out′ who n
-  pub step : (σ : State) (ns es ws out ws′ out′ : List ℕ) (who n : ℕ) → StepIs σ ns es ws out ws′ out′ who n
+  pub start : StartIs
+  pub step : StepIs
   pub steps : StepsIs
   pub read : ReadIs
