@@ -1,7 +1,7 @@
 -- Slices that hold a reached register hold one after any call of the library.
 -- In order: slices that a call leaves as they were; a start's numbers; steps in a row; each call; the theorem.
 -- Assumes nothing.
-use Prim.Native.Nat.{ℕ, zero, suc, _≤_}
+use Prim.Native.Nat.{ℕ, zero, suc}
 use mathlib.Core.Path.{_≡_, refl, sym, _∙_}
 use mathlib.Core.Bool.{Bool, true, false, cond}
 use mathlib.Core.List.{List}
@@ -10,7 +10,7 @@ use native.Mathlib.Decide.{ℕ-discrete, decLt}
 use lib.ListN.{length}
 use lib.Dec.{eqb}
 use borrow.Author.Tests.{eq-eqb}
-use Rattle.terms.specs.Terms.{small, tailKey}
+use Rattle.terms.specs.Terms.{small}
 use Rattle.terms.specs.declared.Op.{Op}
 use Rattle.register.specs.Register.{fits}
 use Rattle.sixteen.specs.declared.Call.{Call}
@@ -21,7 +21,7 @@ use Rattle.exchange.specs.Exchange.{left, readCall}
 use Rattle.ffi.specs.Ffi.{lengthsFit, cleared, freshCall, heard, startCall, stepCall, strode, stepsCall}
 use Rattle.ffi.proofs.Ways.{start-silent, step-silent, strides-silent, strides-lengths, strides-session}
 use Rattle.driven.specs.Driven.{inARow, Did, Strides}
-use Rattle.driven.specs.Always.{HoldsReached, AlwaysReached, Unchanged}
+use Rattle.driven.specs.Always.{HoldsReached, AreWords, AlwaysReached, Unchanged}
 use Rattle.driven.proofs.Driven.{driven}
 use Rattle.driven.proofs.Refused.{refused-keeps}
 
@@ -41,13 +41,13 @@ did ns es ws R call ns′ es′ ws′ out out′ n words D = record {
 }
 
 -- the numbers that a start asks for are words
-module _ (who first second : ℕ) (low : first ≤ tailKey) (high : second ≤ tailKey) where
+module _ (who first second : ℕ) (words : AreWords first second) where
   asked-by : (a b c d : Bool) → InWords (Call.Start who (cond a (Op.Insert first second)
       (cond b (Op.Remove first) (cond c (Op.Has first) (cond d (Op.Range first second) Op.None)))))
-  asked-by true b c d = (low, low)
-  asked-by false true c d = (low, low)
-  asked-by false false true d = (low, low)
-  asked-by false false false true = (low, high)
+  asked-by true b c d = (words .0, words .0)
+  asked-by false true c d = (words .0, words .0)
+  asked-by false false true d = (words .0, words .0)
+  asked-by false false false true = words
   asked-by false false false false = (omega arith, omega arith)
 
   asked : (kind : ℕ) → InWords (Call.Start who (opFrom kind first second))
@@ -80,11 +80,11 @@ module _ (ns es ws : List ℕ) (R : HoldsReached ns es ws) where
   ]
 
   -- ---- start and step: made, or with an answer of another length
-  always-start : (out ws′ out′ : List ℕ) (who kind first second n : ℕ) → first ≤ tailKey → second ≤ tailKey
+  always-start : (out ws′ out′ : List ℕ) (who kind first second n : ℕ) → AreWords first second
       → heard ws′ out′ n ≡ startCall small ns es ws out who kind first second → HoldsReached ns es ws′
-  always-start out ws′ out′ who kind first second n low high told = elim (ℕ-discrete (length out) 3) [
+  always-start out ws′ out′ who kind first second n words told = elim (ℕ-discrete (length out) 3) [
     | yes three ↦ did ns es ws R (Call.Start who (opFrom kind first second)) ns es ws′ out out′ n
-        (asked who first second low high kind)
+        (asked who first second words kind)
         (driven .start (R .state) ns es ws out ws′ out′ who kind first second n (R .holds) three told)
     | no other ↦ let e = told ∙ sym (start-silent small ns es ws out who kind first second other) in
         unchanged ns es ws ns es ws′ R (record { nodes = refl; entries = refl; words = cc })

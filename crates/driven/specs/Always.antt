@@ -22,10 +22,14 @@ pub record HoldsReached (ns es ws : List ℕ) : Type 0 where
   pub holds : Holds ns es ws state
   pub reached : Reached small state past
 
+-- a start's two numbers are words of 32 bits
+abbrev pub AreWords : ℕ → ℕ → Type 0
+AreWords first second = (first ≤ tailKey) × (second ≤ tailKey)
+
 pub record AlwaysReached (ns es ws : List ℕ) : Type 0 where
   pub fresh : (ns′ es′ ws′ : List ℕ) (n : ℕ) → cleared ns′ es′ ws′ n ≡ freshCall small ns es ws
       → HoldsReached ns′ es′ ws′
-  pub start : (out ws′ out′ : List ℕ) (who kind first second n : ℕ) → first ≤ tailKey → second ≤ tailKey
+  pub start : (out ws′ out′ : List ℕ) (who kind first second n : ℕ) → AreWords first second
       → heard ws′ out′ n ≡ startCall small ns es ws out who kind first second → HoldsReached ns es ws′
   pub step : (out ns′ es′ ws′ out′ : List ℕ) (who n : ℕ)
       → left ns′ es′ ws′ out′ n ≡ stepCall small ns es ws out who → HoldsReached ns′ es′ ws′
