@@ -1,5 +1,5 @@
 -- Slices that hold a reached register hold one after any call of the library.
--- In order: slices that a call leaves as they were; a start's numbers; steps in a row; each call; the theorem.
+-- In order: slices that a call leaves as they were; a start's numbers; steps in a row; each call; the theorems.
 -- Assumes nothing.
 use Prim.Native.Nat.{ℕ, zero, suc}
 use mathlib.Core.Path.{_≡_, refl, sym, _∙_}
@@ -15,13 +15,15 @@ use Rattle.terms.specs.declared.Op.{Op}
 use Rattle.register.specs.Register.{fits}
 use Rattle.sixteen.specs.declared.Call.{Call}
 use Rattle.fairness.specs.Calls.{after}
-use Rattle.reached.specs.Reached.{State, go, Past, note, InWords, Reached, on}
+use Rattle.reached.specs.Reached.{State, go, Past, note, InWords, Reached}
+use Rattle.reached.specs.Reached.{on as reached-on}
 use Rattle.encoding.specs.Encoding.{opFrom}
 use Rattle.exchange.specs.Exchange.{left, readCall}
 use Rattle.ffi.specs.Ffi.{lengthsFit, cleared, freshCall, heard, startCall, stepCall, strode, stepsCall}
 use Rattle.ffi.proofs.Ways.{start-silent, step-silent, strides-silent, strides-lengths, strides-session}
 use Rattle.driven.specs.Driven.{inARow, Did, Strides}
-use Rattle.driven.specs.Always.{HoldsReached, AreWords, AlwaysReached, Unchanged}
+use Rattle.driven.specs.Always.{HoldsReached, AreWords, fresh, start, step, steps, read, StaysReached}
+use Rattle.driven.specs.Always.{freshly, listed, on, LentReached, Unchanged}
 use Rattle.driven.proofs.Driven.{driven}
 use Rattle.driven.proofs.Refused.{refused-keeps}
 
@@ -37,7 +39,7 @@ did ns es ws R call ns′ es′ ws′ out out′ n words D = record {
   state = go small (R .state) call;
   past = note small (R .state) call (R .past);
   holds = D .holds;
-  reached = on (R .reached) call words;
+  reached = reached-on (R .reached) call words;
 }
 
 -- the numbers that a start asks for are words
@@ -58,23 +60,34 @@ module _ (who first second : ℕ) (words : AreWords first second) where
 row-reached : (who made : ℕ) {σ : State} {h : Past} → Reached small σ h
     → (k : Past) × Reached small (after (go small) σ (inARow made who)) k
 row-reached who zero {σ} {h} r = (h, r)
-row-reached who (suc made) {σ} {h} r = row-reached who made (on r (Call.Step who) tt)
+row-reached who (suc made) {σ} {h} r = row-reached who made (reached-on r (Call.Step who) tt)
+
+-- ---- fresh and reading, where they return 0
+opened-fresh : (ns es ws ns′ es′ ws′ : List ℕ) → cleared ns′ es′ ws′ 0 ≡ freshCall small ns es ws
+    → HoldsReached ns′ es′ ws′
+opened-fresh ns es ws ns′ es′ ws′ told =
+    let F = driven .fresh ns es ws ns′ es′ ws′ told in
+    record { state = _; past = _; holds = F .0; reached = F .1 }
+
+opened-read : (input ns es ws out ns′ es′ ws′ out′ : List ℕ)
+    → left ns′ es′ ws′ out′ 0 ≡ readCall small input ns es ws out → HoldsReached ns′ es′ ws′
+opened-read input ns es ws out ns′ es′ ws′ out′ told =
+    let F = driven .read input ns es ws out ns′ es′ ws′ out′ told in
+    record { state = _; past = _; holds = F .holds; reached = F .reached }
 
 module _ (ns es ws : List ℕ) (R : HoldsReached ns es ws) where
   -- ---- fresh and reading: opened, or refused and as it was
   always-fresh : (ns′ es′ ws′ : List ℕ) (n : ℕ) → cleared ns′ es′ ws′ n ≡ freshCall small ns es ws
       → HoldsReached ns′ es′ ws′
   always-fresh ns′ es′ ws′ n told = elim (ℕ-discrete n 0) [
-    | yes e ↦ let F = driven .fresh ns es ws ns′ es′ ws′ (rw (← e) told) in
-        record { state = _; past = _; holds = F .0; reached = F .1 }
+    | yes e ↦ opened-fresh ns es ws ns′ es′ ws′ (rw (← e) told)
     | no some ↦ unchanged ns es ws ns′ es′ ws′ R (refused-keeps small ns es ws .fresh ns′ es′ ws′ n some told)
   ]
 
   always-read : (input out ns′ es′ ws′ out′ : List ℕ) (n : ℕ)
       → left ns′ es′ ws′ out′ n ≡ readCall small input ns es ws out → HoldsReached ns′ es′ ws′
   always-read input out ns′ es′ ws′ out′ n told = elim (ℕ-discrete n 0) [
-    | yes e ↦ let F = driven .read input ns es ws out ns′ es′ ws′ out′ (rw (← e) told) in
-        record { state = _; past = _; holds = F .holds; reached = F .reached }
+    | yes e ↦ opened-read input ns es ws out ns′ es′ ws′ out′ (rw (← e) told)
     | no some ↦ unchanged ns es ws ns′ es′ ws′ R
         (refused-keeps small ns es ws .read input out ns′ es′ ws′ out′ n some told)
   ]
@@ -131,12 +144,21 @@ module _ (ns es ws : List ℕ) (R : HoldsReached ns es ws) where
       | no other ↦ stood out 7 (strides-silent small ns es ws ps out who limit other)
     ]
 
--- ---- THE THEOREM
-pub always-reached : (ns es ws : List ℕ) → HoldsReached ns es ws → AlwaysReached ns es ws
-always-reached ns es ws R = record {
-  fresh = always-fresh ns es ws R;
-  start = always-start ns es ws R;
-  step = always-step ns es ws R;
-  steps = always-steps ns es ws R;
-  read = always-read ns es ws R;
-}
+-- ---- THE THEOREMS
+pub stays-reached : StaysReached
+stays-reached ns es ws _ _ _ _ (fresh ns′ es′ ws′ n told) R = always-fresh ns es ws R ns′ es′ ws′ n told
+stays-reached ns es ws _ _ _ _ (start out ws′ out′ who kind first second n words told) R =
+    always-start ns es ws R out ws′ out′ who kind first second n words told
+stays-reached ns es ws _ _ _ _ (step out ns′ es′ ws′ out′ who n told) R =
+    always-step ns es ws R out ns′ es′ ws′ out′ who n told
+stays-reached ns es ws _ _ _ _ (steps ps out ns′ es′ ws′ ps′ out′ who limit n told) R =
+    always-steps ns es ws R ps out ns′ es′ ws′ ps′ out′ who limit n told
+stays-reached ns es ws _ _ _ _ (read input out ns′ es′ ws′ out′ n told) R =
+    always-read ns es ws R input out ns′ es′ ws′ out′ n told
+
+pub lent-reached : LentReached
+lent-reached _ _ _ (freshly ns es ws ns′ es′ ws′ told) = opened-fresh ns es ws ns′ es′ ws′ told
+lent-reached _ _ _ (listed input ns es ws out ns′ es′ ws′ out′ told) =
+    opened-read input ns es ws out ns′ es′ ws′ out′ told
+lent-reached _ _ _ (on {ns} {es} {ws} {ns′} {es′} {ws′} {n} lent call) =
+    stays-reached ns es ws ns′ es′ ws′ n call (lent-reached ns es ws lent)

@@ -1,5 +1,5 @@
 -- What fresh, start and step of the library make of a held register: what document 01's calls do.
--- In order: what a call leaves of the sixteen records; a step; a start; fresh.
+-- In order: what a call leaves of the sixteen records, and slices that hold it; a step; a start; fresh.
 -- Not here: several steps (Strides), reading (Read). Assumes nothing.
 use Prim.Native.Nat.{ℕ, _<_}
 use mathlib.Core.Path.{_≡_, refl, sym, _∙_, ap}
@@ -13,10 +13,10 @@ use borrow.Author.Tests.{eqb-true}
 use Rattle.terms.specs.Terms.{small}
 use Rattle.terms.specs.declared.Counters.{Counters}
 use Rattle.terms.specs.declared.Refusal.{Refusal}
+use Rattle.steps.specs.declared.Session.{Session}
 use Rattle.steps.specs.Steps.{Done, done, idle}
 use Rattle.register.specs.declared.Opened.{Opened}
 use Rattle.register.specs.Register.{fits, opened, freshNodes, freshEntries, freshCounters, freshOf, stepOf}
-use Rattle.sixteen.specs.declared.Register.{Register}
 use Rattle.sixteen.specs.declared.Call.{Call}
 use Rattle.sixteen.specs.Sixteen.{Left, served}
 use Rattle.sixteen.specs.Sixteen.{afterStep as servedStep}
@@ -53,27 +53,39 @@ module _ (σ : State) (call : Call) (sixteen : length (σ .register .sessions) �
   pub as-many-behind : length (go small σ call .register .sessions) ≡ 16
   as-many-behind = rw (sessions-in (called small σ call)) (D .as-many ∙ sixteen)
 
--- ---- a step
-module _ (σ : State) (ws out : List ℕ) (who : ℕ) where
-  abbrev g : Register
-  g = σ .register
+-- ---- slices that hold what a call leaves, from those that held σ in its own tables
+module _ (σ : State) (ws : List ℕ) (H : Holds (σ .nodes) (σ .entries) ws σ) where
+  abbrev own : Call → Session
+  own call = ownRecord small (σ .nodes) (σ .entries) (σ .register) call
 
+  call-holds : (call : Call) → Holds (go small σ call .nodes) (go small σ call .entries)
+      (kept ws (whoOf call) (go small σ call .register .counters) (own call)) (go small σ call)
+  call-holds call =
+      kept-holds (σ .nodes) (σ .entries) ws σ H (whoOf call) (own call) (go small σ call)
+      (own-behind σ call (H .sixteen)) (others-behind σ call (H .sixteen)) (as-many-behind σ call (H .sixteen))
+
+  -- a start leaves the counters: its own record alone is put
+  start-words : (who : ℕ) (s : Session) → putRecord ws who (encode s) ≡ kept ws who (σ .register .counters) s
+  start-words who s = ap (λ v. putRecord v who (encode s)) (sym (counters-same ws)) ∙ rw (H .counters)
+
+-- ---- what the library's step leaves, of what the register's leaves
+module _ (σ : State) (ws out : List ℕ) (who : ℕ) where
   record Stepped (d : Done) (ns′ es′ ws′ out′ : List ℕ) (n : ℕ) : Type 0 where
-    nodes : ns′ ≡ stateIn (servedStep g who d) .nodes
-    entries : es′ ≡ stateIn (servedStep g who d) .entries
-    words : ws′ ≡ kept ws who (stateIn (servedStep g who d) .register .counters) (returned d .session)
-    answered : out′ ≡ putReply out (replyOf (answerIn (servedStep g who d)))
-    number : n ≡ numberOf (replyOf (answerIn (servedStep g who d)))
+    nodes : ns′ ≡ stateIn (servedStep (σ .register) who d) .nodes
+    entries : es′ ≡ stateIn (servedStep (σ .register) who d) .entries
+    words : ws′ ≡ kept ws who (stateIn (servedStep (σ .register) who d) .register .counters) (returned d .session)
+    answered : out′ ≡ putReply out (replyOf (answerIn (servedStep (σ .register) who d)))
+    number : n ≡ numberOf (replyOf (answerIn (servedStep (σ .register) who d)))
 
   stepped : (d : Done) (ns′ es′ ws′ out′ : List ℕ) (n : ℕ) → left ns′ es′ ws′ out′ n ≡ afterStep ws out who d
       → Stepped d ns′ es′ ws′ out′ n
-  stepped (done ns es r) ns′ es′ ws′ out′ n call =
+  stepped (done ns es r) ns′ es′ ws′ out′ n told =
       record { nodes = cc; entries = cc; words = cc; answered = cc; number = cc }
 
-  -- from slices that are σ's own tables
   module _ (H : Holds (σ .nodes) (σ .entries) ws σ) (three : length out ≡ 3) where
+    -- ---- a step
     abbrev d : Done
-    d = stepOf small (σ .nodes) (σ .entries) (g .counters) who (recordOf σ who)
+    d = stepOf small (σ .nodes) (σ .entries) (σ .register .counters) who (recordOf σ who)
 
     step-is-served : stepCall small (σ .nodes) (σ .entries) ws out who ≡ afterStep ws out who d
     unfolding stepRecord
@@ -81,21 +93,13 @@ module _ (σ : State) (ws out : List ℕ) (who : ℕ) where
         step-of-record (σ .nodes) (σ .entries) ws out who (recordOf σ who) three (H .long)
         (decoded (σ .nodes) (σ .entries) ws σ H who) ∙ rw (H .counters)
 
-    step-holds : Holds (go small σ (Call.Step who) .nodes) (go small σ (Call.Step who) .entries)
-        (kept ws who (go small σ (Call.Step who) .register .counters) (returned d .session))
-        (go small σ (Call.Step who))
-    step-holds =
-        kept-holds (σ .nodes) (σ .entries) ws σ H who (returned d .session) (go small σ (Call.Step who))
-        (own-behind σ (Call.Step who) (H .sixteen)) (others-behind σ (Call.Step who) (H .sixteen))
-        (as-many-behind σ (Call.Step who) (H .sixteen))
-
     step-did : (ns′ es′ ws′ out′ : List ℕ) (n : ℕ)
         → left ns′ es′ ws′ out′ n ≡ stepCall small (σ .nodes) (σ .entries) ws out who
         → Did σ (Call.Step who) ns′ es′ ws′ out out′ n
-    step-did ns′ es′ ws′ out′ n call =
-        let S = stepped d ns′ es′ ws′ out′ n (call ∙ step-is-served) in
+    step-did ns′ es′ ws′ out′ n told =
+        let S = stepped d ns′ es′ ws′ out′ n (told ∙ step-is-served) in
         record {
-          holds = rw (S .nodes, S .entries, S .words) step-holds;
+          holds = rw (S .nodes, S .entries, S .words) (call-holds σ ws H (Call.Step who));
           answered = S .answered;
           number = S .number;
         }
@@ -105,18 +109,13 @@ module _ (σ : State) (ws out : List ℕ) (who : ℕ) where
         → heard ws′ out′ n ≡ startCall small (σ .nodes) (σ .entries) ws out who kind first second
         → Did σ (Call.Start who (opFrom kind first second)) (σ .nodes) (σ .entries) ws′ out out′ n
     unfolding startRecord
-    start-did kind first second ws′ out′ n call =
+    start-did kind first second ws′ out′ n told =
         let c = Call.Start who (opFrom kind first second) in
-        let s = ownRecord small (σ .nodes) (σ .entries) g c in
-        let e = call ∙ start-of-record (σ .nodes) (σ .entries) ws out who (recordOf σ who) three (H .long)
+        let e = told ∙ start-of-record (σ .nodes) (σ .entries) ws out who (recordOf σ who) three (H .long)
         (decoded (σ .nodes) (σ .entries) ws σ H who) kind first second in
-        let same : putRecord ws who (encode s) ≡ kept ws who (g .counters) s =
-        ap (λ v. putRecord v who (encode s)) (sym (counters-same ws)) ∙ rw (H .counters) in
-        let words : ws′ ≡ putRecord ws who (encode s) = cc in
+        let words : ws′ ≡ putRecord ws who (encode (own σ ws H c)) = cc in
         record {
-          holds = rw (words, same)
-              (kept-holds (σ .nodes) (σ .entries) ws σ H who s (go small σ c)
-              (own-behind σ c (H .sixteen)) (others-behind σ c (H .sixteen)) (as-many-behind σ c (H .sixteen)));
+          holds = rw (words, start-words σ ws H who (own σ ws H c)) (call-holds σ ws H c);
           answered = cc;
           number = cc;
         }

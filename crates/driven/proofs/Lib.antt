@@ -1,6 +1,6 @@
--- A register driven through the library is a reached one.
--- In order, each on those before: what the words read after each store; slices that go on holding a register; the
--- calls; the theorem.
+-- A register driven through the library for C and Rust is a reached one.
+-- In order, each on those before: what the words read after each store; slices that go on holding a register; fresh,
+-- start and step; several steps; reading; the theorem; refusals; any call.
 -- Not here: definitions (specs/). Assumes nothing.
 pub mod Words
 pub mod Holding

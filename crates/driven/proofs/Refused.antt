@@ -71,7 +71,8 @@ module _ (z : Size) (ns es ws out : List ℕ) (who n : ℕ) (some : n ≢ 0) whe
         let r = startOf z ns es who s op in
         let number : n ≡ numberOf (replyOf (r .answer)) = cc in
         let words : ws′ ≡ putRecord ws who (encode (r .session)) = cc in
-        let same = demand-1 z .start-leaves ns es who s op .refused-keeps n (refuses-number (r .answer) n some number) in
+        let refused = refuses-number (r .answer) n some number in
+        let same = demand-1 z .start-leaves ns es who s op .refused-keeps n refused in
         words ∙ ap (λ x. putRecord ws who (encode x)) same ∙ record-kept ws who s read
 
     start-decoded : (d : Decoded) → decode (recordAt ws who) ≡ d

@@ -1,6 +1,7 @@
 -- What is so after any call of the library, whatever it is asked and whatever it returns.
--- In order: slices that hold a reached register go on holding one; a refusal changes neither tables nor words.
--- The first asks of a start that its two numbers are words of 32 bits, as every program's are. The second is true of
+-- In order: slices that hold a reached register; a call of the library, and that they go on holding one; slices that a
+-- program has driven through it; a refusal changes neither tables nor words.
+-- A start's two numbers are asked to be words of 32 bits, as every program's are. What is said of a refusal is true of
 -- any content, and of any size; full (6) is the one that differs, and several steps leave what those before the
 -- refused one did.
 -- Not here: which register a call leaves (Driven). Assumes nothing.
@@ -26,17 +27,34 @@ pub record HoldsReached (ns es ws : List ℕ) : Type 0 where
 abbrev pub AreWords : ℕ → ℕ → Type 0
 AreWords first second = (first ≤ tailKey) × (second ≤ tailKey)
 
-pub record AlwaysReached (ns es ws : List ℕ) : Type 0 where
-  pub fresh : (ns′ es′ ws′ : List ℕ) (n : ℕ) → cleared ns′ es′ ws′ n ≡ freshCall small ns es ws
-      → HoldsReached ns′ es′ ws′
-  pub start : (out ws′ out′ : List ℕ) (who kind first second n : ℕ) → AreWords first second
-      → heard ws′ out′ n ≡ startCall small ns es ws out who kind first second → HoldsReached ns es ws′
-  pub step : (out ns′ es′ ws′ out′ : List ℕ) (who n : ℕ)
-      → left ns′ es′ ws′ out′ n ≡ stepCall small ns es ws out who → HoldsReached ns′ es′ ws′
-  pub steps : (ps out ns′ es′ ws′ ps′ out′ : List ℕ) (who limit n : ℕ)
-      → strode ns′ es′ ws′ ps′ out′ n ≡ stepsCall small ns es ws ps out who limit → HoldsReached ns′ es′ ws′
-  pub read : (input out ns′ es′ ws′ out′ : List ℕ) (n : ℕ)
-      → left ns′ es′ ws′ out′ n ≡ readCall small input ns es ws out → HoldsReached ns′ es′ ws′
+-- ---- a call of the library, whatever it is asked: from slices to slices, with the number that it returns
+pub data Calls (ns es ws : List ℕ) : List ℕ → List ℕ → List ℕ → ℕ → Type 0 where
+  fresh : (ns′ es′ ws′ : List ℕ) (n : ℕ) → cleared ns′ es′ ws′ n ≡ freshCall small ns es ws
+      → Calls ns es ws ns′ es′ ws′ n
+  start : (out ws′ out′ : List ℕ) (who kind first second n : ℕ) → AreWords first second
+      → heard ws′ out′ n ≡ startCall small ns es ws out who kind first second → Calls ns es ws ns es ws′ n
+  step : (out ns′ es′ ws′ out′ : List ℕ) (who n : ℕ)
+      → left ns′ es′ ws′ out′ n ≡ stepCall small ns es ws out who → Calls ns es ws ns′ es′ ws′ n
+  steps : (ps out ns′ es′ ws′ ps′ out′ : List ℕ) (who limit n : ℕ)
+      → strode ns′ es′ ws′ ps′ out′ n ≡ stepsCall small ns es ws ps out who limit → Calls ns es ws ns′ es′ ws′ n
+  read : (input out ns′ es′ ws′ out′ : List ℕ) (n : ℕ)
+      → left ns′ es′ ws′ out′ n ≡ readCall small input ns es ws out → Calls ns es ws ns′ es′ ws′ n
+
+-- whoever held a reached register holds one after it
+abbrev pub StaysReached : Type 0
+StaysReached = (ns es ws ns′ es′ ws′ : List ℕ) (n : ℕ) → Calls ns es ws ns′ es′ ws′ n → HoldsReached ns es ws
+    → HoldsReached ns′ es′ ws′
+
+-- ---- slices that a program has driven through the library: a fresh or a read that returned 0, of slices with any
+-- content, and any calls after it
+pub data Lent : List ℕ → List ℕ → List ℕ → Type 0 where
+  freshly : (ns es ws ns′ es′ ws′ : List ℕ) → cleared ns′ es′ ws′ 0 ≡ freshCall small ns es ws → Lent ns′ es′ ws′
+  listed : (input ns es ws out ns′ es′ ws′ out′ : List ℕ)
+      → left ns′ es′ ws′ out′ 0 ≡ readCall small input ns es ws out → Lent ns′ es′ ws′
+  on : {ns es ws ns′ es′ ws′ : List ℕ} {n : ℕ} → Lent ns es ws → Calls ns es ws ns′ es′ ws′ n → Lent ns′ es′ ws′
+
+abbrev pub LentReached : Type 0
+LentReached = (ns es ws : List ℕ) → Lent ns es ws → HoldsReached ns es ws
 
 -- ---- a refusal: another number than 0
 pub record Unchanged (ns es ws ns′ es′ ws′ : List ℕ) : Type 0 where
