@@ -1,5 +1,6 @@
 -- What the words read after a store: the counters and the record that were put, and all others as they were.
--- In order: three words in a row; the counters; a record; a fresh register's words; past the last record.
+-- In order: three words in a row; lists that agree in a record's words; the counters; a record; a fresh register's
+-- words; past the last record.
 -- A record's words lie at 3 to 11 of nine a row: rows overlap, places do not.
 -- Not here: which register they hold (Holding). Assumes nothing.
 use Prim.Native.Nat.{ℕ, _+_, _*_, _≤_, _<_}
