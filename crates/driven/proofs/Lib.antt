@@ -9,5 +9,7 @@ pub mod Calls
 pub mod Strides
 pub mod Read
 pub mod Driven
+pub mod Checked
+pub mod Halted
 pub mod Refused
 pub mod Always

@@ -1,7 +1,8 @@
 -- A refusal by the library changes neither tables nor words, whatever they hold: what it refuses itself it refuses
 -- before it writes, and what the register refuses changes nothing (demand 1), so that the words put back are those
 -- that were there.
--- In order: a number is a refusal's; start; step; fresh; reading; the theorem. Assumes nothing.
+-- In order: start; step; fresh; reading; the theorem.
+-- Not here: several steps (Halted). Assumes nothing.
 use Prim.Native.Nat.{ℕ}
 use mathlib.Core.Path.{_≡_, refl, _∙_, ap}
 use mathlib.Core.Logic.{_≢_}
@@ -12,7 +13,6 @@ use lib.Dec.{ltb, eqb}
 use Rattle.terms.specs.Terms.{Refuses}
 use Rattle.terms.specs.declared.Size.{Size}
 use Rattle.terms.specs.declared.Op.{Op}
-use Rattle.terms.specs.declared.Answer.{Answer}
 use Rattle.terms.specs.declared.Refusal.{Refusal}
 use Rattle.steps.specs.declared.Session.{Session}
 use Rattle.steps.specs.Steps.{Done, done, Tables, tables}
@@ -30,33 +30,13 @@ use Rattle.encoding.specs.declared.Decoded.{Decoded}
 use Rattle.encoding.specs.Encoding.{encode, opFrom, decode}
 use Rattle.packing.specs.Packing.{countersAt, recordAt, putRecord, replyOf, numberOf}
 use Rattle.exchange.specs.Exchange.{Left, left, stays, afterRead, readLoaded, readCall}
-use Rattle.ffi.specs.Ffi.{kept, onDecoded, cleared, afterFresh, freshCall, Heard, heard, deaf}
+use Rattle.ffi.specs.Ffi.{onDecoded, cleared, afterFresh, freshCall, Heard, heard, deaf}
 use Rattle.ffi.specs.Ffi.{startRecord, startSession, startCall}
 use Rattle.ffi.specs.Ffi.{lengthsFit, afterStep, stepRecord, stepSession, stepCall}
-use Rattle.ffi.proofs.Kept.{record-kept, words-kept}
+use Rattle.ffi.proofs.Kept.{record-kept}
 use Rattle.driven.specs.Always.{Unchanged, RefusedKeeps}
-
--- ---- the number that a call returns is its refusal's
-refuses-number : (a : Answer) (n : ℕ) → n ≢ 0 → n ≡ numberOf (replyOf a) → Refuses n a
-unfolding numberOf
-refuses-number Answer.Started n some e = absurd (some e)
-refuses-number Answer.Working n some e = absurd (some e)
-refuses-number Answer.Waiting n some e = absurd (some e)
-refuses-number (Answer.Key k v) n some e = absurd (some e)
-refuses-number (Answer.Inserted m) n some e = absurd (some e)
-refuses-number (Answer.Removed m) n some e = absurd (some e)
-refuses-number Answer.Present n some e = absurd (some e)
-refuses-number Answer.Absent n some e = absurd (some e)
-refuses-number (Answer.End t m) n some e = absurd (some e)
-refuses-number (Answer.Refused why) n some e = record { name = refl; values = rw e }
-
--- ---- what the calls check first: all ways but the last leave everything
-checked-by : {A : Type 0} (P : A → Type 0) (silent : A) (refused : ℕ → A) (goes : A) (a b c : Bool) → P silent
-    → ((m : ℕ) → P (refused m)) → P goes → P (cond a (cond b (cond c goes (refused 1)) (refused 7)) silent)
-checked-by P silent refused goes true true true s r g = g
-checked-by P silent refused goes true true false s r g = r 1
-checked-by P silent refused goes true false c s r g = r 7
-checked-by P silent refused goes false b c s r g = s
+use Rattle.driven.proofs.Checked.{refuses-number, kept-unchanged, checked-by}
+use Rattle.driven.proofs.Halted.{refused-steps}
 
 module _ (z : Size) (ns es ws out : List ℕ) (who n : ℕ) (some : n ≢ 0) where
   -- ---- start
@@ -99,14 +79,7 @@ module _ (z : Size) (ns es ws out : List ℕ) (who n : ℕ) (some : n ≢ 0) whe
     step-done s read (done ns₁ es₁ r) keeps told =
         let number : n ≡ numberOf (replyOf (r .answer)) = cc in
         let K = keeps (refuses-number (r .answer) n some number) in
-        let words : ws′ ≡ kept ws who (r .counters) (r .session) = cc in
-        let nodes : ns′ ≡ ns₁ = cc in
-        let entries : es′ ≡ es₁ = cc in
-        record {
-          nodes = nodes ∙ K .nodes;
-          entries = entries ∙ K .entries;
-          words = words ∙ rw (K .counters, K .session) (words-kept ws who s read);
-        }
+        kept-unchanged ws who s read ns es ns₁ es₁ ns′ es′ ws′ r K (cc) (cc) (cc)
 
     step-record : (s : Session) → decode (recordAt ws who) ≡ Decoded.Record s
         → Stays (stepRecord z ns es ws out who s)
@@ -176,5 +149,7 @@ refused-keeps z ns es ws = record {
       refused-start z ns es ws out who n some ws′ out′ kind first second;
   step = λ out ns′ es′ ws′ out′ who n some not-full.
       refused-step z ns es ws out who n some not-full ns′ es′ ws′ out′;
+  steps = λ ps out ns′ es′ ws′ ps′ out′ who limit n some not-full few.
+      refused-steps z ns es ws ps out who limit n some not-full ns′ es′ ws′ ps′ out′ few;
   read = λ input out ns′ es′ ws′ out′ n some. refused-read z ns es ws n some ns′ es′ ws′ input out out′;
 }

@@ -2,13 +2,14 @@
 -- In order: slices that hold a reached register; a call of the library, and that they go on holding one; slices that a
 -- program has driven through it; a refusal changes neither tables nor words.
 -- A start's two numbers are asked to be words of 32 bits, as every program's are. What is said of a refusal is true of
--- any content, and of any size; full (6) is the one that differs, and several steps leave what those before the
--- refused one did.
+-- any content, and of any size; full (6) is the one that differs, and of several steps it is said where the first
+-- was refused: those before a refused one leave what they did.
 -- Not here: which register a call leaves (Driven). Assumes nothing.
 use Prim.Native.Nat.{ℕ, _≤_}
 use mathlib.Core.Path.{_≡_}
 use mathlib.Core.Logic.{_≢_}
 use mathlib.Core.List.{List}
+use Rattle.table.specs.Table.{wordOf}
 use Rattle.terms.specs.Terms.{small, tailKey}
 use Rattle.terms.specs.declared.Size.{Size}
 use Rattle.reached.specs.Reached.{State, Past, Reached}
@@ -62,6 +63,10 @@ pub record Unchanged (ns es ws ns′ es′ ws′ : List ℕ) : Type 0 where
   pub entries : es′ ≡ es
   pub words : ws′ ≡ ws
 
+-- how many steps a call of several steps made, by the fifth word of its answer
+abbrev pub madeIn : List ℕ → ℕ
+madeIn out = wordOf 5 out 0 4
+
 pub record RefusedKeeps (z : Size) (ns es ws : List ℕ) : Type 0 where
   pub fresh : (ns′ es′ ws′ : List ℕ) (n : ℕ) → n ≢ 0 → cleared ns′ es′ ws′ n ≡ freshCall z ns es ws
       → Unchanged ns es ws ns′ es′ ws′
@@ -69,5 +74,8 @@ pub record RefusedKeeps (z : Size) (ns es ws : List ℕ) : Type 0 where
       → heard ws′ out′ n ≡ startCall z ns es ws out who kind first second → ws′ ≡ ws
   pub step : (out ns′ es′ ws′ out′ : List ℕ) (who n : ℕ) → n ≢ 0 → n ≢ 6
       → left ns′ es′ ws′ out′ n ≡ stepCall z ns es ws out who → Unchanged ns es ws ns′ es′ ws′
+  pub steps : (ps out ns′ es′ ws′ ps′ out′ : List ℕ) (who limit n : ℕ) → n ≢ 0 → n ≢ 6 → madeIn out′ ≤ 1
+      → strode ns′ es′ ws′ ps′ out′ n ≡ stepsCall z ns es ws ps out who limit
+      → Unchanged ns es ws ns′ es′ ws′ × (ps′ ≡ ps)
   pub read : (input out ns′ es′ ws′ out′ : List ℕ) (n : ℕ) → n ≢ 0
       → left ns′ es′ ws′ out′ n ≡ readCall z input ns es ws out → Unchanged ns es ws ns′ es′ ws′
