@@ -1,0 +1,1 @@
+// No code: what the library's slices hold is a register that calls reach (specs/ and proofs/).
