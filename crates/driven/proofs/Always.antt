@@ -46,11 +46,11 @@ did ns es ws R call ns′ es′ ws′ out out′ n words D = record {
 module _ (who first second : ℕ) (words : AreWords first second) where
   asked-by : (a b c d : Bool) → InWords (Call.Start who (cond a (Op.Insert first second)
       (cond b (Op.Remove first) (cond c (Op.Has first) (cond d (Op.Range first second) Op.None)))))
-  asked-by true b c d = (words .0, words .0)
-  asked-by false true c d = (words .0, words .0)
-  asked-by false false true d = (words .0, words .0)
-  asked-by false false false true = words
-  asked-by false false false false = (omega arith, omega arith)
+  asked-by true b c d = (words .0, words .0, words .1)
+  asked-by false true c d = (words .0, words .0, omega arith)
+  asked-by false false true d = (words .0, words .0, omega arith)
+  asked-by false false false true = (words .0, words .1, omega arith)
+  asked-by false false false false = (omega arith, omega arith, omega arith)
 
   asked : (kind : ℕ) → InWords (Call.Start who (opFrom kind first second))
   unfolding opFrom

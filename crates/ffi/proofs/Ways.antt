@@ -27,7 +27,7 @@ use Rattle.packing.specs.Packing.{countersAt, putCounters, recordAt, putRecord,
 use Rattle.packing.specs.Packing.{numberOf, putReply}
 use Rattle.exchange.specs.Exchange.{told, Left, left}
 use Rattle.ffi.specs.Ffi.{lengthsFit, refusal, answered, kept, cleared, freshCall, Heard, heard}
-use Rattle.ffi.specs.Ffi.{Strode, strode, tally, stepsRecord, stepsSession, stepsCall}
+use Rattle.ffi.specs.Ffi.{Strode, strode, tally, stepsRecord, stepsSession, manyCall, stepsCall}
 use Rattle.table.specs.Table.{storeOf}
 use Rattle.several.specs.declared.Went.{Went}
 use Rattle.several.specs.Several.{gone, severalOf}
@@ -127,46 +127,9 @@ pub ruleset starts = (start-silent, start-lengths, start-session, start-goes)
 
 -- ---- step
 module _ (z : Size) (ns es ws out : List ℕ) (who : ℕ) where
-  pub steps-record : (s : Session) (c : Counters) (r : Stepped) (ns′ es′ ws′ out′ : List ℕ) (n : ℕ)
-      → c ≡ countersAt ws → done ns′ es′ r ≡ stepOf z ns es c who s → ws′ ≡ kept ws who (r .counters) (r .session)
-      → told out′ n ≡ answered out (r .answer) → left ns′ es′ ws′ out′ n ≡ stepRecord z ns es ws out who s
-  unfolding stepRecord
-  steps-record s c r ns′ es′ ws′ out′ n k call h i = rw (← k, ← call, h) (cc)
-
-  module _ (w : Words) (d : Decoded) (words : w ≡ recordAt ws who) (read : d ≡ decode w) where
-    pub steps-decoded : (s : Session) (t : Left) → d ≡ Decoded.Record s → t ≡ stepRecord z ns es ws out who s
-        → t ≡ stepSession z ns es ws out who
-    unfolding stepSession
-    steps-decoded s t e h = rw (← words, ← read, e, h)
-
-    pub steps-malformed : (out′ : List ℕ) (n : ℕ) → d ≡ Decoded.Malformed → told out′ n ≡ refusal out 8
-        → left ns es ws out′ n ≡ stepSession z ns es ws out who
-    unfolding stepSession
-    steps-malformed out′ n e h = rw (← words, ← read, e) (cc)
-
   pub step-silent : (length out ≡ 3 → ⊥) → left ns es ws out 7 ≡ stepCall z ns es ws out who
   unfolding stepCall
   step-silent h = rw (ne-eqb _ _ h)
-
-  module _ (b : Bool) (three : length out ≡ 3) (test : b ≡ lengthsFit z ns es ws) where
-    pub step-lengths : (out′ : List ℕ) (n : ℕ) → b ≡ false → told out′ n ≡ refusal out 7
-        → left ns es ws out′ n ≡ stepCall z ns es ws out who
-    unfolding stepCall
-    step-lengths out′ n h e = rw (eq-eqb _ _ three, ← test, h) (cc)
-
-    pub step-session : (out′ : List ℕ) (n : ℕ) → b ≡ true → 16 ≤ who → told out′ n ≡ refusal out 1
-        → left ns es ws out′ n ≡ stepCall z ns es ws out who
-    unfolding stepCall
-    step-session out′ n h past e = rw (eq-eqb _ _ three, ← test, h, le-ltb _ _ past) (cc)
-
-    pub step-goes : (t : Left) → b ≡ true → who < 16 → t ≡ stepSession z ns es ws out who
-        → t ≡ stepCall z ns es ws out who
-    unfolding stepCall
-    step-goes t h known e = rw (eq-eqb _ _ three, ← test, h, lt-ltb _ _ known, e)
-
-pub ruleset step-sessions = (steps-decoded, steps-malformed)
-
-pub ruleset steps = (step-silent, step-lengths, step-session, step-goes)
 
 -- ---- several steps
 pub counts-up : (out a b : List ℕ) (n count made : ℕ) → a ≡ storeOf 5 out 0 3 count → b ≡ storeOf 5 a 0 4 made
@@ -220,9 +183,27 @@ module _ (z : Size) (ns es ws ps out : List ℕ) (who limit : ℕ) where
     unfolding stepsCall
     strides-session out′ n h past e = rw (eq-eqb _ _ five, ← test, h, le-ltb _ _ past) (cc)
 
-    pub strides-go : (t : Strode) → b ≡ true → who < 16 → t ≡ stepsSession z ns es ws ps out who limit
-        → t ≡ stepsCall z ns es ws ps out who limit
-    unfolding stepsCall
-    strides-go t h known e = rw (eq-eqb _ _ five, ← test, h, lt-ltb _ _ known, e)
+  pub strides-go : (t : Strode) → length out ≡ 5 → t ≡ manyCall z ns es ws ps out who limit
+      → t ≡ stepsCall z ns es ws ps out who limit
+  unfolding stepsCall manyCall
+  strides-go t five e = e ∙ rw (eq-eqb _ _ five)
+
+  module _ (b : Bool) (test : b ≡ lengthsFit z ns es ws) where
+    pub many-lengths : (out′ : List ℕ) (n : ℕ) → b ≡ false
+        → told out′ n ≡ told (tally (putReply out (refusedBy 7)) 0 0) 7
+        → strode ns es ws ps out′ n ≡ manyCall z ns es ws ps out who limit
+    unfolding manyCall
+    many-lengths out′ n h e = rw (← test, h) (cc)
+
+    pub many-session : (out′ : List ℕ) (n : ℕ) → b ≡ true → 16 ≤ who
+        → told out′ n ≡ told (tally (putReply out (refusedBy 1)) 0 0) 1
+        → strode ns es ws ps out′ n ≡ manyCall z ns es ws ps out who limit
+    unfolding manyCall
+    many-session out′ n h past e = rw (← test, h, le-ltb _ _ past) (cc)
+
+    pub many-goes : (t : Strode) → b ≡ true → who < 16 → t ≡ stepsSession z ns es ws ps out who limit
+        → t ≡ manyCall z ns es ws ps out who limit
+    unfolding manyCall
+    many-goes t h known e = e ∙ rw (← test, h, lt-ltb _ _ known)
 
 pub ruleset stride-sessions = (strides-decoded, strides-malformed)

@@ -144,6 +144,13 @@ unfoldable pub stepsSession : Size → List ℕ → List ℕ → List ℕ → Li
 stepsSession z ns es ws ps out who limit =
     onDecoded (decode (recordAt ws who)) (stepsRecord z ns es ws ps out who limit) (standsStill ns es ws ps out 8)
 
+-- whatever the answer's length is: only the words that it has are written
+unfoldable pub manyCall : Size → List ℕ → List ℕ → List ℕ → List ℕ → List ℕ → ℕ → ℕ → Strode
+manyCall z ns es ws ps out who limit =
+    cond (lengthsFit z ns es ws)
+    (cond (ltb who 16) (stepsSession z ns es ws ps out who limit) (standsStill ns es ws ps out 1))
+    (standsStill ns es ws ps out 7)
+
 unfoldable pub stepsCall : Size → List ℕ → List ℕ → List ℕ → List ℕ → List ℕ → ℕ → ℕ → Strode
 stepsCall z ns es ws ps out who limit =
     checked 5 z ns es ws out who (strode ns es ws ps out 7) (standsStill ns es ws ps out)

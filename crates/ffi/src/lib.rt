@@ -1,9 +1,9 @@
-// The register for other programs (C, Rust): fresh, start, step and listings, over lent slices.
-// In order: the slices' lengths; answering; fresh; start; step, whole and by a short way (crate shortly); writing and
-// reading a listing. `words` are 147: the counters and sixteen records (crate packing); `answer` is 3: the answer's
-// name and values. Each call returns 0 or a refusal's number; a refusal changes nothing but the answer; where the
-// answer has another length than 3, nothing at all is written. No call has a `requires`: wrong lengths are refused 7,
-// words that are no record's 8.
+// The register for other programs (C, Rust): fresh, start, step, many steps and listings, over lent slices.
+// In order: the slices' lengths; answering; fresh; start; many steps; one step, whole and by a short way (crate
+// shortly); writing and reading a listing. `words` are 147: the counters and sixteen records (crate packing); `answer`
+// is 3: the answer's name and values, and for many steps two numbers more. Each call returns 0 or a refusal's number; a
+// refusal changes nothing but the answer; where the answer has another length, nothing at all is written. No call has a
+// `requires`: wrong lengths are refused 7, words that are no record's 8.
 // include/ravencrumb.h declares the calls.
 // Not here: what the calls mean (crate register). Assumes nothing.
 ghost use mathlib.Core.Path.{_≡_};
@@ -19,15 +19,14 @@ ghost use Rattle.ffi.specs.Ffi.{
   startRecord,
   startSession,
   startCall,
-  stepRecord,
   went,
   admitted,
-  stepSession,
   stepCall,
   tally,
   strode,
   stepsRecord,
   stepsSession,
+  manyCall,
   stepsCall,
 };
 ghost use Rattle.packing.specs.Packing.{refusedBy, putReply};
@@ -173,205 +172,6 @@ pub extern "C" fn ravencrumb_start(
     7
 }
 
-fn step_record(
-    nodes: &mut [u32],
-    entries: &mut [u32],
-    words: &mut [u32],
-    answer: &mut [u32],
-    who: u32,
-    s: Session,
-) -> u32
-    ensures { λ r. ⌜ left (now (nodes .exit)) (now (entries .exit)) (now (words .exit)) (now (answer .exit)) r
-        ≡ stepRecord small (now (nodes .entry)) (now (entries .entry)) (now (words .entry)) (now (answer .entry))
-        who s ⌝ }
-{
-    let c = packing::counters_at(words);
-    let out = register::step(nodes, entries, c, who, s);
-    let counters = out.counters;
-    let session = out.session;
-    let given = out.answer;
-    keep(words, who, counters, session);
-    tell(answer, given)
-}
-
-fn step_session(
-    nodes: &mut [u32],
-    entries: &mut [u32],
-    words: &mut [u32],
-    answer: &mut [u32],
-    who: u32,
-) -> u32
-    ensures { λ r. ⌜ left (now (nodes .exit)) (now (entries .exit)) (now (words .exit)) (now (answer .exit)) r
-        ≡ stepSession small (now (nodes .entry)) (now (entries .entry)) (now (words .entry)) (now (answer .entry))
-        who ⌝ }
-{
-    let w = packing::record_at(words, who);
-    match encoding::decode_words(w) {
-        Decoded::Record(s) => step_record(nodes, entries, words, answer, who, s),
-        Decoded::Malformed => refuse(answer, 8),
-    }
-}
-
-// The whole call: the checks, and the step on the record decoded.
-fn step_fully(
-    nodes: &mut [u32],
-    entries: &mut [u32],
-    words: &mut [u32],
-    answer: &mut [u32],
-    who: u32,
-) -> u32
-    ensures { λ r. ⌜ left (now (nodes .exit)) (now (entries .exit)) (now (words .exit)) (now (answer .exit)) r
-        ≡ stepCall small (now (nodes .entry)) (now (entries .entry)) (now (words .entry)) (now (answer .entry))
-        who ⌝ }
-{
-    if answer.len() == 3 {
-        if right_lengths(nodes, entries, words) {
-            if 16 <= who {
-                return refuse(answer, 1);
-            }
-            return step_session(nodes, entries, words, answer, who);
-        }
-        return refuse(answer, 7);
-    }
-    7
-}
-
-// Puts what a short way tells: the two words that change, and the answer, which is no refusal.
-fn go(
-    words: &mut [u32],
-    answer: &mut [u32],
-    who: u32,
-    j: u32,
-    x: u32,
-    k: u32,
-    y: u32,
-    reply: Reply,
-) -> u32
-    ensures { λ r. ⌜ heard (now (words .exit)) (now (answer .exit)) r
-        ≡ went (now (words .entry)) (now (answer .entry)) who j x k y reply ⌝ }
-{
-    packing::put_two(words, who, j, x, k, y);
-    packing::put_reply(answer, reply);
-    0
-}
-
-fn step_ranging(
-    nodes: &mut [u32],
-    entries: &mut [u32],
-    words: &mut [u32],
-    answer: &mut [u32],
-    who: u32,
-) -> u32
-    requires { ⌜ admitted small (now nodes) (now entries) (now words) (now answer) who ⌝ }
-    ensures { λ r. ⌜ left (now (nodes .exit)) (now (entries .exit)) (now (words .exit)) (now (answer .exit)) r
-        ≡ stepCall small (now (nodes .entry)) (now (entries .entry)) (now (words .entry)) (now (answer .entry))
-        who ⌝ }
-{
-    let w = packing::record_at(words, who);
-    match shortly::range(nodes, entries, w) {
-        Ranged::Leads(phase, to) => {
-            let reply = packing::say(Answer::Working);
-            go(words, answer, who, PHASE, phase, A, to, reply)
-        }
-        Ranged::Hands(handed, key, value) => {
-            let reply = packing::say(Answer::Key(key, value));
-            go(words, answer, who, PHASE, 11, C, handed, reply)
-        }
-        Ranged::Long => step_fully(nodes, entries, words, answer, who),
-    }
-}
-
-// Any step but a walk's, and a walk's where it does not move on. It tests the lengths again because it compiles to a
-// function of its own, so that a walk's step saves no registers for a range's loop.
-fn step_otherwise(
-    nodes: &mut [u32],
-    entries: &mut [u32],
-    words: &mut [u32],
-    answer: &mut [u32],
-    who: u32,
-) -> u32
-    ensures { λ r. ⌜ left (now (nodes .exit)) (now (entries .exit)) (now (words .exit)) (now (answer .exit)) r
-        ≡ stepCall small (now (nodes .entry)) (now (entries .entry)) (now (words .entry)) (now (answer .entry))
-        who ⌝ }
-{
-    if answer.len() == 3 {
-        if right_lengths(nodes, entries, words) {
-            if who < 16 {
-                return step_ranging(nodes, entries, words, answer, who);
-            }
-        }
-    }
-    step_fully(nodes, entries, words, answer, who)
-}
-
-fn step_walking(
-    nodes: &mut [u32],
-    entries: &mut [u32],
-    words: &mut [u32],
-    answer: &mut [u32],
-    who: u32,
-) -> u32
-    requires { ⌜ admitted small (now nodes) (now entries) (now words) (now answer) who ⌝ }
-    ensures { λ r. ⌜ left (now (nodes .exit)) (now (entries .exit)) (now (words .exit)) (now (answer .exit)) r
-        ≡ stepCall small (now (nodes .entry)) (now (entries .entry)) (now (words .entry)) (now (answer .entry))
-        who ⌝ }
-{
-    let w = packing::record_at(words, who);
-    match shortly::walk(nodes, w) {
-        Walked::On(next) => {
-            let p = w.phase;
-            let reply = packing::say(Answer::Working);
-            go(words, answer, who, A, p.b, B, next, reply)
-        }
-        Walked::Long => step_otherwise(nodes, entries, words, answer, who),
-    }
-}
-
-// A walk's way is tried for a walk alone.
-fn step_shortly(
-    nodes: &mut [u32],
-    entries: &mut [u32],
-    words: &mut [u32],
-    answer: &mut [u32],
-    who: u32,
-) -> u32
-    requires { ⌜ admitted small (now nodes) (now entries) (now words) (now answer) who ⌝ }
-    ensures { λ r. ⌜ left (now (nodes .exit)) (now (entries .exit)) (now (words .exit)) (now (answer .exit)) r
-        ≡ stepCall small (now (nodes .entry)) (now (entries .entry)) (now (words .entry)) (now (answer .entry))
-        who ⌝ }
-{
-    if packing::phase_number(words, who) == 1 {
-        return step_walking(nodes, entries, words, answer, who);
-    }
-    step_otherwise(nodes, entries, words, answer, who)
-}
-
-// By a short way where one leads: nearly all steps are a walk's or a range's. Each other way calls by itself, which
-// compiles to less than one call that all of them share.
-#[no_mangle]
-pub extern "C" fn ravencrumb_step(
-    nodes: &mut [u32],
-    entries: &mut [u32],
-    words: &mut [u32],
-    answer: &mut [u32],
-    who: u32,
-) -> u32
-    ensures { λ r. ⌜ left (now (nodes .exit)) (now (entries .exit)) (now (words .exit)) (now (answer .exit)) r
-        ≡ stepCall small (now (nodes .entry)) (now (entries .entry)) (now (words .entry)) (now (answer .entry))
-        who ⌝ }
-{
-    if answer.len() == 3 {
-        if right_lengths(nodes, entries, words) {
-            if who < 16 {
-                return step_shortly(nodes, entries, words, answer, who);
-            }
-            return step_otherwise(nodes, entries, words, answer, who);
-        }
-        return step_otherwise(nodes, entries, words, answer, who);
-    }
-    step_otherwise(nodes, entries, words, answer, who)
-}
-
 // Puts how many pairs are filled and how many steps were made behind an answer, and returns what the call returns.
 fn count_up(answer: &mut [u32], number: u32, count: u32, made: u32) -> u32
     ensures { λ r. ⌜ told (now (answer .exit)) r ≡ told (tally (now (answer .entry)) count made) number ⌝ }
@@ -436,6 +236,30 @@ fn steps_session(
     }
 }
 
+// The checks, and the steps on the record decoded.
+fn many(
+    nodes: &mut [u32],
+    entries: &mut [u32],
+    words: &mut [u32],
+    pairs: &mut [u32],
+    answer: &mut [u32],
+    who: u32,
+    limit: u32,
+) -> u32
+    ensures { λ r. ⌜ strode (now (nodes .exit)) (now (entries .exit)) (now (words .exit)) (now (pairs .exit))
+        (now (answer .exit)) r
+        ≡ manyCall small (now (nodes .entry)) (now (entries .entry)) (now (words .entry)) (now (pairs .entry))
+        (now (answer .entry)) who limit ⌝ }
+{
+    if right_lengths(nodes, entries, words) {
+        if 16 <= who {
+            return stand_still(answer, 1);
+        }
+        return steps_session(nodes, entries, words, pairs, answer, who, limit);
+    }
+    stand_still(answer, 7)
+}
+
 // Steps of one session: see crate several for when it ends. Key i handed out is word 2 i of `pairs`, its value the
 // next.
 #[no_mangle]
@@ -454,15 +278,168 @@ pub extern "C" fn ravencrumb_steps(
         (now (answer .entry)) who limit ⌝ }
 {
     if answer.len() == 5 {
-        if right_lengths(nodes, entries, words) {
-            if 16 <= who {
-                return stand_still(answer, 1);
-            }
-            return steps_session(nodes, entries, words, pairs, answer, who, limit);
-        }
-        return stand_still(answer, 7);
+        return many(nodes, entries, words, pairs, answer, who, limit);
     }
     7
+}
+
+// The whole call: one of many steps. No key is looked for in the pair lent to it.
+fn step_fully(
+    nodes: &mut [u32],
+    entries: &mut [u32],
+    words: &mut [u32],
+    answer: &mut [u32],
+    who: u32,
+) -> u32
+    ensures { λ r. ⌜ left (now (nodes .exit)) (now (entries .exit)) (now (words .exit)) (now (answer .exit)) r
+        ≡ stepCall small (now (nodes .entry)) (now (entries .entry)) (now (words .entry)) (now (answer .entry))
+        who ⌝ }
+{
+    if answer.len() == 3 {
+        let mut pair = [0; 2];
+        return many(nodes, entries, words, &mut pair, answer, who, 1);
+    }
+    7
+}
+
+// Puts what a short way tells: the two words that change, and the answer, which is no refusal.
+fn go(
+    words: &mut [u32],
+    answer: &mut [u32],
+    who: u32,
+    j: u32,
+    x: u32,
+    k: u32,
+    y: u32,
+    reply: Reply,
+) -> u32
+    ensures { λ r. ⌜ heard (now (words .exit)) (now (answer .exit)) r
+        ≡ went (now (words .entry)) (now (answer .entry)) who j x k y reply ⌝ }
+{
+    packing::put_two(words, who, j, x, k, y);
+    packing::put_reply(answer, reply);
+    0
+}
+
+fn step_ranging(
+    nodes: &mut [u32],
+    entries: &mut [u32],
+    words: &mut [u32],
+    answer: &mut [u32],
+    who: u32,
+) -> u32
+    requires { ⌜ admitted small (now nodes) (now entries) (now words) (now answer) who ⌝ }
+    ensures { λ r. ⌜ left (now (nodes .exit)) (now (entries .exit)) (now (words .exit)) (now (answer .exit)) r
+        ≡ stepCall small (now (nodes .entry)) (now (entries .entry)) (now (words .entry)) (now (answer .entry))
+        who ⌝ }
+{
+    let w = packing::record_at(words, who);
+    match shortly::range(nodes, entries, w) {
+        Ranged::Leads(phase, to) => {
+            let reply = packing::say(Answer::Working);
+            go(words, answer, who, PHASE, phase, A, to, reply)
+        }
+        Ranged::Hands(handed, key, value) => {
+            let reply = packing::say(Answer::Key(key, value));
+            go(words, answer, who, PHASE, 11, C, handed, reply)
+        }
+        Ranged::Long => step_fully(nodes, entries, words, answer, who),
+    }
+}
+
+// A range's step, by its short way where it leads. It tests the lengths again because it compiles to a function of its
+// own, so that a walk's step saves no registers for a range's loop.
+fn step_range(
+    nodes: &mut [u32],
+    entries: &mut [u32],
+    words: &mut [u32],
+    answer: &mut [u32],
+    who: u32,
+) -> u32
+    ensures { λ r. ⌜ left (now (nodes .exit)) (now (entries .exit)) (now (words .exit)) (now (answer .exit)) r
+        ≡ stepCall small (now (nodes .entry)) (now (entries .entry)) (now (words .entry)) (now (answer .entry))
+        who ⌝ }
+{
+    if answer.len() == 3 {
+        if right_lengths(nodes, entries, words) {
+            if who < 16 {
+                return step_ranging(nodes, entries, words, answer, who);
+            }
+        }
+    }
+    step_fully(nodes, entries, words, answer, who)
+}
+
+fn step_walking(
+    nodes: &mut [u32],
+    entries: &mut [u32],
+    words: &mut [u32],
+    answer: &mut [u32],
+    who: u32,
+) -> u32
+    requires { ⌜ admitted small (now nodes) (now entries) (now words) (now answer) who ⌝ }
+    ensures { λ r. ⌜ left (now (nodes .exit)) (now (entries .exit)) (now (words .exit)) (now (answer .exit)) r
+        ≡ stepCall small (now (nodes .entry)) (now (entries .entry)) (now (words .entry)) (now (answer .entry))
+        who ⌝ }
+{
+    let w = packing::record_at(words, who);
+    match shortly::walk(nodes, w) {
+        Walked::On(next) => {
+            let p = w.phase;
+            let reply = packing::say(Answer::Working);
+            go(words, answer, who, A, p.b, B, next, reply)
+        }
+        Walked::Long => step_fully(nodes, entries, words, answer, who),
+    }
+}
+
+// A walk's way is tried for a walk alone, and a range's for Follow and Hand.
+fn step_shortly(
+    nodes: &mut [u32],
+    entries: &mut [u32],
+    words: &mut [u32],
+    answer: &mut [u32],
+    who: u32,
+) -> u32
+    requires { ⌜ admitted small (now nodes) (now entries) (now words) (now answer) who ⌝ }
+    ensures { λ r. ⌜ left (now (nodes .exit)) (now (entries .exit)) (now (words .exit)) (now (answer .exit)) r
+        ≡ stepCall small (now (nodes .entry)) (now (entries .entry)) (now (words .entry)) (now (answer .entry))
+        who ⌝ }
+{
+    let phase = packing::phase_number(words, who);
+    if phase == 1 {
+        return step_walking(nodes, entries, words, answer, who);
+    }
+    if 11 <= phase {
+        return step_range(nodes, entries, words, answer, who);
+    }
+    step_fully(nodes, entries, words, answer, who)
+}
+
+// By a short way where one leads: nearly all steps are a walk's or a range's. Each other way calls by itself, which
+// compiles to less than one call that all of them share.
+#[no_mangle]
+pub extern "C" fn ravencrumb_step(
+    nodes: &mut [u32],
+    entries: &mut [u32],
+    words: &mut [u32],
+    answer: &mut [u32],
+    who: u32,
+) -> u32
+    ensures { λ r. ⌜ left (now (nodes .exit)) (now (entries .exit)) (now (words .exit)) (now (answer .exit)) r
+        ≡ stepCall small (now (nodes .entry)) (now (entries .entry)) (now (words .entry)) (now (answer .entry))
+        who ⌝ }
+{
+    if answer.len() == 3 {
+        if right_lengths(nodes, entries, words) {
+            if who < 16 {
+                return step_shortly(nodes, entries, words, answer, who);
+            }
+            return step_range(nodes, entries, words, answer, who);
+        }
+        return step_range(nodes, entries, words, answer, who);
+    }
+    step_range(nodes, entries, words, answer, who)
 }
 
 #[no_mangle]

@@ -1,5 +1,5 @@
 -- `ffi::ravencrumb_steps` meets its contract: each way out is a law of proofs/Ways.antt. Assumes nothing.
-use Rattle.ffi.proofs.Ways.{strides-silent, strides-lengths, strides-session, strides-go}
+use Rattle.ffi.proofs.Ways.{strides-silent, strides-go}
 use borrow.Author.Needs.{needs}
 use Rattle.ffi.proofs.ravencrumb_steps.Statement.{statement}
 use Rattle.ffi.proofs.ravencrumb_steps.Tie as tie
@@ -9,23 +9,10 @@ ravencrumb-steps-spec =
     tie.close
     (tie.spec
     (λ c κs. search needs)
-    (λ c κs. search needs)
-    (λ c. search needs)
-    (λ c. search needs)
-    (λ c. search needs)
-    (λ c. search needs)
-    (λ c. search strides-session)
-    (λ c κs. search needs)
     (λ c. search needs)
     (λ c. search needs)
     (λ c. search needs)
     (λ c. search needs)
     (λ c. search needs)
     (λ c. search strides-go)
-    (λ c κs. search needs)
-    (λ c. search needs)
-    (λ c. search needs)
-    (λ c. search needs)
-    (λ c. search needs)
-    (λ c. search strides-lengths)
     (λ c. search strides-silent))

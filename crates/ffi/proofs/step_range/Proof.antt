@@ -1,11 +1,11 @@
--- `ffi::step_otherwise` meets its contract: what it calls meets the same, and a short way's checks are passed.
+-- `ffi::step_range` meets its contract: what it calls meets the same, and a short way's checks are passed.
 -- Assumes nothing.
 use borrow.Author.Needs.{needs}
-use Rattle.ffi.proofs.step_otherwise.Statement.{statement}
-use Rattle.ffi.proofs.step_otherwise.Tie as tie
+use Rattle.ffi.proofs.step_range.Statement.{statement}
+use Rattle.ffi.proofs.step_range.Tie as tie
 
-pub step-otherwise-spec : {M : Type 1} → statement M
-step-otherwise-spec =
+pub step-range-spec : {M : Type 1} → statement M
+step-range-spec =
     tie.close
     (tie.spec
     (λ c κs. search needs)
