@@ -33,7 +33,8 @@ module _ (out : List ℕ) (three : length out ≡ 3) where
   store-past k v h = set-out out (0 * 5 + k) v (omega (arith, three, h))
 
   tally-past : (count made : ℕ) → tally out count made ≡ out
-  tally-past count made = ap (λ o. storeOf 5 o 0 4 made) (store-past 3 count (omega arith)) ∙ store-past 4 made (omega arith)
+  tally-past count made =
+      ap (λ o. storeOf 5 o 0 4 made) (store-past 3 count (omega arith)) ∙ store-past 4 made (omega arith)
 
 reply-length : (out : List ℕ) (r : Reply) → length (putReply out r) ≡ length out
 unfolding putReply

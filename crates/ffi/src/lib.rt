@@ -1,9 +1,9 @@
 // The register for other programs (C, Rust): fresh, start, step, many steps and listings, over lent slices.
 // In order: the slices' lengths; answering; fresh; start; many steps; one step, whole and by a short way (crate
-// shortly); writing and reading a listing. `words` are 147: the counters and sixteen records (crate packing); `answer`
-// is 3: the answer's name and values, and for many steps two numbers more. Each call returns 0 or a refusal's number; a
-// refusal changes nothing but the answer; where the answer has another length, nothing at all is written. No call has a
-// `requires`: wrong lengths are refused 7, words that are no record's 8.
+// shortly); writing and reading a listing. `words` are 147: the counters and sixteen records (crate packing);
+// `answer` is 3: the answer's name and values, and for many steps two numbers more. Each call returns 0 or a refusal's
+// number; a refusal changes nothing but the answer; where the answer has another length, nothing at all is written. No
+// call has a `requires`: wrong lengths are refused 7, words that are no record's 8.
 // include/ravencrumb.h declares the calls.
 // Not here: what the calls mean (crate register). Assumes nothing.
 ghost use mathlib.Core.Path.{_≡_};
