@@ -19,7 +19,8 @@ use Rattle.reached.specs.Reached.{State, go, Past, note, InWords, Reached}
 use Rattle.reached.specs.Reached.{on as reached-on}
 use Rattle.encoding.specs.Encoding.{opFrom}
 use Rattle.exchange.specs.Exchange.{left, readCall}
-use Rattle.ffi.specs.Ffi.{lengthsFit, cleared, freshCall, heard, startCall, stepCall, strode, stepsCall}
+use Rattle.calling.specs.Calling.{lengthsFit, strode}
+use Rattle.ffi.specs.Ffi.{cleared, freshCall, heard, startCall, stepCall, stepsCall}
 use Rattle.ffi.proofs.Ways.{start-silent, step-silent, strides-silent, strides-lengths, strides-session}
 use Rattle.driven.specs.Driven.{inARow, Did, Strides}
 use Rattle.driven.specs.Always.{HoldsReached, AreWords, fresh, start, step, steps, read, StaysReached}

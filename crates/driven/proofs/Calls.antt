@@ -29,7 +29,8 @@ use Rattle.encoding.specs.Encoding.{encode, opFrom}
 use Rattle.packing.specs.Packing.{replyOf, numberOf, putReply, putRecord, freshWords}
 use Rattle.packing.proofs.Same.{counters-same}
 use Rattle.exchange.specs.Exchange.{left}
-use Rattle.ffi.specs.Ffi.{kept, cleared, afterFresh, freshCall, heard, startRecord, startCall}
+use Rattle.calling.specs.Calling.{kept}
+use Rattle.ffi.specs.Ffi.{cleared, afterFresh, freshCall, heard, startRecord, startCall}
 use Rattle.ffi.specs.Ffi.{afterStep, stepRecord, stepCall}
 use Rattle.driven.specs.Driven.{Holds, Did, allIdle, FreshIs, StartIs, StepIs}
 use Rattle.driven.proofs.Words.{counters-length, counters-put, fresh-blank}

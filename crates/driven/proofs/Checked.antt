@@ -17,7 +17,7 @@ use Rattle.encoding.specs.Encoding.{decode}
 use Rattle.packing.specs.Packing.{countersAt, recordAt, replyOf, numberOf}
 use Rattle.several.specs.declared.Said.{Said}
 use Rattle.several.specs.Several.{saidOf}
-use Rattle.ffi.specs.Ffi.{kept}
+use Rattle.calling.specs.Calling.{kept}
 use Rattle.ffi.proofs.Kept.{words-kept}
 use Rattle.driven.specs.Always.{Unchanged}
 

@@ -28,8 +28,9 @@ use Rattle.packing.specs.Packing.{countersAt, recordAt, replyOf, numberOf, putR
 use Rattle.several.specs.declared.Went.{Went}
 use Rattle.several.specs.Several.{Handed, handed, saidOf, handOut, Turned, turned, turnWith, turnBy, turnOf}
 use Rattle.several.specs.Several.{Gone, gone, stops, nextOr, goOn, severalOf}
-use Rattle.ffi.specs.Ffi.{lengthsFit, onDecoded, tally, Strode, strode, standsStill, afterSteps, stepsRecord}
-use Rattle.ffi.specs.Ffi.{stepsSession, stepsCall}
+use Rattle.calling.specs.Calling.{lengthsFit, onDecoded, tally, Strode, strode, standsStill, afterSteps, stepsRecord}
+use Rattle.calling.specs.Calling.{stepsSession}
+use Rattle.ffi.specs.Ffi.{stepsCall}
 use Rattle.ffi.proofs.Ways.{strides-silent}
 use Rattle.driven.specs.Always.{Unchanged, madeIn}
 use Rattle.driven.proofs.Checked.{refuses-number, refused-says, kept-unchanged, checked-by}

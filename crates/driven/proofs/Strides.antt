@@ -24,7 +24,8 @@ use Rattle.several.specs.declared.Turn.{Turn}
 use Rattle.several.specs.declared.Went.{Went}
 use Rattle.several.specs.Several.{Handed, handed, saidOf, handOut, goesOn, Turned, turned, turnWith, turnBy, turnOf}
 use Rattle.several.specs.Several.{Gone, gone, nextOr, stops, goOn, severalOf}
-use Rattle.ffi.specs.Ffi.{lengthsFit, kept, strode, afterSteps, stepsRecord, stepsSession, stepsCall}
+use Rattle.calling.specs.Calling.{lengthsFit, kept, strode, afterSteps, stepsRecord, stepsSession}
+use Rattle.ffi.specs.Ffi.{stepsCall}
 use Rattle.driven.specs.Driven.{Holds, Onward, AllOnward, handAll, inARow, Row, Strides, StepsIs}
 use Rattle.driven.proofs.Holding.{decoded, kept-holds}
 use Rattle.driven.proofs.Calls.{own-behind, others-behind, as-many-behind, own-tables}

@@ -28,7 +28,8 @@ use Rattle.several.specs.Several.{Handed, handed, saidOf, handOut}
 use Rattle.encoding.specs.Encoding.{encode, opFrom}
 use Rattle.packing.specs.Packing.{countersAt, recordAt, replyWith, replyOf, numberOf, putReply}
 use Rattle.exchange.specs.Exchange.{wordsRoom, left, readCall}
-use Rattle.ffi.specs.Ffi.{cleared, freshCall, heard, startCall, stepCall, tally, strode, stepsCall}
+use Rattle.calling.specs.Calling.{tally, strode}
+use Rattle.ffi.specs.Ffi.{cleared, freshCall, heard, startCall, stepCall, stepsCall}
 
 -- ---- the slices hold σ: its tables, its counters, and the record of each of its sixteen sessions
 pub record Holds (ns es ws : List ℕ) (σ : State) : Type 0 where

@@ -17,7 +17,8 @@ use Rattle.encoding.proofs.Trip.{encode-decode}
 use Rattle.packing.specs.Packing.{countersAt, putCounters, recordAt, putRecord, numberOf}
 use Rattle.packing.proofs.Same.{counters-same, record-same}
 use Rattle.exchange.specs.Exchange.{stays}
-use Rattle.ffi.specs.Ffi.{kept, deaf, startRecord, stepRecord}
+use Rattle.calling.specs.Calling.{kept}
+use Rattle.ffi.specs.Ffi.{deaf, startRecord, stepRecord}
 
 module _ (ws : List ℕ) (who : ℕ) (s : Session) (read : decode (recordAt ws who) ≡ Decoded.Record s) where
   pub record-kept : putRecord ws who (encode s) ≡ ws

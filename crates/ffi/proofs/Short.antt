@@ -26,7 +26,8 @@ use Rattle.shortly.specs.declared.Ranged.{Ranged}
 use Rattle.shortly.specs.Shortly.{named, walkShortly, rangeShortly}
 use Rattle.shortly.specs.Told.{Agrees, WalkTold, RangeTold}
 use Rattle.shortly.proofs.Agrees.{walk-is-step, range-is-step}
-use Rattle.ffi.specs.Ffi.{lengthsFit, admitted, kept, heard, went, stepRecord, stepSession, stepCall}
+use Rattle.calling.specs.Calling.{lengthsFit, kept}
+use Rattle.ffi.specs.Ffi.{admitted, heard, went, stepRecord, stepSession, stepCall}
 
 module _ (z : Size) (ns es ws out : List ℕ) (who : ℕ) (ready : admitted z ns es ws out who) where
   -- ---- the call's checks

@@ -23,8 +23,10 @@ use Rattle.encoding.specs.Encoding.{decode}
 use Rattle.packing.specs.declared.Reply.{Reply}
 use Rattle.packing.specs.Packing.{countersAt, recordAt, refusedBy, putReply}
 use Rattle.exchange.specs.Exchange.{Left, left, stays}
-use Rattle.ffi.specs.Ffi.{lengthsFit, onDecoded, Strode, strode, tally, standsStill, afterStep, afterSteps}
-use Rattle.ffi.specs.Ffi.{stepRecord, stepSession, stepCall, stepsRecord, stepsSession, manyCall}
+use Rattle.calling.specs.Calling.{lengthsFit, onDecoded, Strode, strode, tally, standsStill, afterSteps}
+use Rattle.ffi.specs.Ffi.{afterStep}
+use Rattle.calling.specs.Calling.{stepsRecord, stepsSession, manyCall}
+use Rattle.ffi.specs.Ffi.{stepRecord, stepSession, stepCall}
 
 -- ---- words past the answer's end
 module _ (out : List ℕ) (three : length out ≡ 3) where

@@ -1,40 +1,30 @@
 -- The calls for other programs: what each leaves in the lent slices, and the number that it returns.
--- In order: the slices' lengths; a refusal; fresh (7); start (7, 1, 8, then 2, 3, 4 by the register); step (7, 1, 8,
--- then 5 and 8 by the register); several steps (the same). `z` is the size, `ns` and `es` are the tables, `ws` the
--- counters' and records' words, `ps` the lent pairs, `out` the answer's words. A refusal changes nothing but the
--- answer (proofs/Kept.antt); an answer of another length than 3, or 5 for several steps, stays.
--- Not here: listings (crate exchange), the register's calls (crate register), where words lie (crate packing).
--- Assumes nothing.
+-- In order: the checks; fresh (7); start (7, 1, 8, then 2, 3, 4 by the register); step (7, 1, 8, then 5 and 8 by the
+-- register); several steps (the same). `z` is the size, `ns` and `es` are the tables, `ws` the counters' and records'
+-- words, `ps` the lent pairs, `out` the answer's words. A refusal changes nothing but the answer (proofs/Kept.antt);
+-- an answer of another length than 3, or 5 for several steps, stays.
+-- Not here: lengths, answers and several steps (crate calling), listings (crate exchange), the register's calls (crate
+-- register), where words lie (crate packing). Assumes nothing.
 use Prim.Native.Nat.{ℕ, _<_}
 use mathlib.Core.Path.{_≡_}
 use mathlib.Core.List.{List}
-use mathlib.Core.Bool.{Bool, true, cond, _&&_}
+use mathlib.Core.Bool.{true, cond}
 use lib.ListN.{length}
 use lib.Dec.{ltb, eqb}
 use Rattle.terms.specs.Terms.{refusalNumber}
 use Rattle.terms.specs.declared.Size.{Size}
-use Rattle.terms.specs.declared.Counters.{Counters}
 use Rattle.terms.specs.declared.Op.{Op}
-use Rattle.terms.specs.declared.Answer.{Answer}
 use Rattle.steps.specs.declared.Session.{Session}
 use Rattle.steps.specs.Steps.{Done, done}
-use Rattle.table.specs.Table.{storeOf}
-use Rattle.several.specs.declared.Went.{Went}
-use Rattle.several.specs.Several.{Gone, gone, severalOf}
 use Rattle.register.specs.declared.Started.{Started}
 use Rattle.register.specs.declared.Opened.{Opened}
-use Rattle.register.specs.Register.{fits, Fresh, opened, freshOf, startOf, stepOf}
-use Rattle.encoding.specs.declared.Decoded.{Decoded}
+use Rattle.register.specs.Register.{Fresh, opened, freshOf, startOf, stepOf}
 use Rattle.encoding.specs.Encoding.{encode, opFrom, decode}
 use Rattle.packing.specs.declared.Reply.{Reply}
-use Rattle.packing.specs.Packing.{countersAt, putCounters, recordAt, putRecord, freshWords, refusedBy, replyOf}
-use Rattle.exchange.specs.Exchange.{wordsRoom, Told, told, Left, left, stays}
+use Rattle.packing.specs.Packing.{countersAt, recordAt, putRecord, freshWords, refusedBy, replyOf}
+use Rattle.exchange.specs.Exchange.{wordsRoom, Left, left, stays}
 use Rattle.packing.specs.Packing.{putTwo, numberOf, putReply}
-
--- ---- the slices' lengths: two tables of the size, three counters and sixteen records of nine words, three words of
--- answer
-unfoldable pub lengthsFit : Size → List ℕ → List ℕ → List ℕ → Bool
-lengthsFit z ns es ws = fits z ns es && eqb (length ws) wordsRoom
+use Rattle.calling.specs.Calling.{lengthsFit, onDecoded, kept, Strode, strode, standsStill, stepsSession}
 
 -- what start, step and steps check first, in this order: an answer of another length stays as it is; 7; 1
 abbrev pub checked : {A : Type 0} → ℕ → Size → List ℕ → List ℕ → List ℕ → List ℕ → ℕ → A → (ℕ → A) → A → A
@@ -44,23 +34,6 @@ checked room z ns es ws out who silent refused goes =
 -- what has passed these checks
 abbrev pub admitted : Size → List ℕ → List ℕ → List ℕ → List ℕ → ℕ → Type 0
 admitted z ns es ws out who = (length out ≡ 3) × (lengthsFit z ns es ws ≡ true) × (who < 16)
-
--- then, words that are no record's
-abbrev pub onDecoded : {A : Type 0} → Decoded → (Session → A) → A → A
-onDecoded (Decoded.Record s) goes malformed = goes s
-onDecoded Decoded.Malformed goes malformed = malformed
-
--- ---- a refusal: its number, in the answer and returned
-abbrev pub refusal : List ℕ → ℕ → Told
-refusal out number = told (putReply out (refusedBy number)) number
-
--- an answer, and the number that it has as a refusal
-abbrev pub answered : List ℕ → Answer → Told
-answered out a = told (putReply out (replyOf a)) (numberOf (replyOf a))
-
--- the words with other counters and another record of one session
-abbrev pub kept : List ℕ → ℕ → Counters → Session → List ℕ
-kept ws who c s = putRecord (putCounters ws c) who (encode s)
 
 -- ---- fresh
 pub data Cleared : Type 0 where
@@ -119,38 +92,7 @@ unfoldable pub stepCall : Size → List ℕ → List ℕ → List ℕ → List �
 stepCall z ns es ws out who =
     checked 3 z ns es ws out who (left ns es ws out 7) (stays ns es ws out) (stepSession z ns es ws out who)
 
--- ---- several steps: the tables, the words, the pairs, the answer and the number returned. The answer has two words
--- more: how many pairs are filled, and how many steps were made
-pub data Strode : Type 0 where
-  strode : List ℕ → List ℕ → List ℕ → List ℕ → List ℕ → ℕ → Strode
-
-abbrev pub tally : List ℕ → ℕ → ℕ → List ℕ
-tally out count made = storeOf 5 (storeOf 5 out 0 3 count) 0 4 made
-
-abbrev pub standsStill : List ℕ → List ℕ → List ℕ → List ℕ → List ℕ → ℕ → Strode
-standsStill ns es ws ps out number = strode ns es ws ps (tally (putReply out (refusedBy number)) 0 0) number
-
-abbrev pub afterSteps : List ℕ → List ℕ → ℕ → Gone → Strode
-afterSteps ws out who (gone ns es ps r) =
-    strode ns es (kept ws who (r .last .counters) (r .last .session)) ps
-    (tally (putReply out (replyOf (r .last .answer))) (r .last .count) (r .made))
-    (numberOf (replyOf (r .last .answer)))
-
-unfoldable pub stepsRecord : Size → List ℕ → List ℕ → List ℕ → List ℕ → List ℕ → ℕ → ℕ → Session → Strode
-stepsRecord z ns es ws ps out who limit s =
-    afterSteps ws out who (severalOf z ns es ps (countersAt ws) who s limit)
-
-unfoldable pub stepsSession : Size → List ℕ → List ℕ → List ℕ → List ℕ → List ℕ → ℕ → ℕ → Strode
-stepsSession z ns es ws ps out who limit =
-    onDecoded (decode (recordAt ws who)) (stepsRecord z ns es ws ps out who limit) (standsStill ns es ws ps out 8)
-
--- whatever the answer's length is: only the words that it has are written
-unfoldable pub manyCall : Size → List ℕ → List ℕ → List ℕ → List ℕ → List ℕ → ℕ → ℕ → Strode
-manyCall z ns es ws ps out who limit =
-    cond (lengthsFit z ns es ws)
-    (cond (ltb who 16) (stepsSession z ns es ws ps out who limit) (standsStill ns es ws ps out 1))
-    (standsStill ns es ws ps out 7)
-
+-- ---- several steps (crate calling), where the answer has five words
 unfoldable pub stepsCall : Size → List ℕ → List ℕ → List ℕ → List ℕ → List ℕ → ℕ → ℕ → Strode
 stepsCall z ns es ws ps out who limit =
     checked 5 z ns es ws out who (strode ns es ws ps out 7) (standsStill ns es ws ps out)

@@ -1,18 +1,15 @@
 // The register for other programs (C, Rust): fresh, start, step, many steps and listings, over lent slices.
-// In order: the slices' lengths; answering; fresh; start; many steps; one step, whole and by a short way (crate
-// shortly); writing and reading a listing. `words` are 147: the counters and sixteen records (crate packing);
-// `answer` is 3: the answer's name and values, and for many steps two numbers more. Each call returns 0 or a refusal's
-// number; a refusal changes nothing but the answer; where the answer has another length, nothing at all is written. No
-// call has a `requires`: wrong lengths are refused 7, words that are no record's 8.
-// include/ravencrumb.h declares the calls.
-// Not here: what the calls mean (crate register). Assumes nothing.
+// In order: fresh; start; many steps; one step, whole and by a short way (crate shortly); writing and reading a
+// listing. `words` are 147: the counters and sixteen records (crate packing); `answer` is 3: the answer's name and
+// values, and for many steps two numbers more. Each call returns 0 or a refusal's number; a refusal changes nothing
+// but the answer; where the answer has another length, nothing at all is written. No call has a `requires`: wrong
+// lengths are refused 7, words that are no record's 8. include/ravencrumb.h declares the calls.
+// Not here: the checks, answering and many steps (crate calling), what the calls mean (crate register). Assumes
+// nothing.
 ghost use mathlib.Core.Path.{_≡_};
 ghost use Rattle.terms.specs.Terms.{small};
+ghost use Rattle.calling.specs.Calling.{strode};
 ghost use Rattle.ffi.specs.Ffi.{
-  lengthsFit,
-  refusal,
-  answered,
-  kept,
   cleared,
   freshCall,
   heard,
@@ -22,16 +19,10 @@ ghost use Rattle.ffi.specs.Ffi.{
   went,
   admitted,
   stepCall,
-  tally,
-  strode,
-  stepsRecord,
-  stepsSession,
-  manyCall,
   stepsCall,
 };
-ghost use Rattle.packing.specs.Packing.{refusedBy, putReply};
 ghost use Rattle.listing.specs.Listing.{keyRoom};
-ghost use Rattle.exchange.specs.Exchange.{told, left, wrote, writeCall, readCall};
+ghost use Rattle.exchange.specs.Exchange.{left, wrote, writeCall, readCall};
 use encoding::Decoded;
 use packing::A;
 use packing::B;
@@ -43,46 +34,7 @@ use shortly::Ranged;
 use shortly::Walked;
 use steps::Session;
 use terms::Answer;
-use terms::Counters;
 use terms::Op;
-
-fn right_lengths(nodes: &[u32], entries: &[u32], words: &[u32]) -> bool
-    ensures { λ r. ⌜ r ≡ lengthsFit small (now (nodes .entry)) (now (entries .entry)) (now (words .entry)) ⌝ }
-{
-    if nodes.len() == 3072 {
-        if entries.len() == 8192 {
-            return words.len() == 147;
-        }
-        return false;
-    }
-    false
-}
-
-fn refuse(answer: &mut [u32], number: u32) -> u32
-    ensures { λ r. ⌜ told (now (answer .exit)) r ≡ refusal (now (answer .entry)) number ⌝ }
-{
-    let reply = packing::refused(number);
-    packing::put_reply(answer, reply);
-    number
-}
-
-// Puts an answer, and returns what the call returns.
-fn tell(answer: &mut [u32], given: Answer) -> u32
-    ensures { λ r. ⌜ told (now (answer .exit)) r ≡ answered (now (answer .entry)) given ⌝ }
-{
-    let reply = packing::say(given);
-    packing::put_reply(answer, reply);
-    packing::number_in(reply)
-}
-
-// Puts what a step returns beside the tables and the answer.
-fn keep(words: &mut [u32], who: u32, c: Counters, s: Session)
-    ensures { λ _. ⌜ now (words .exit) ≡ kept (now (words .entry)) who c s ⌝ }
-{
-    let w = encoding::encode_session(s);
-    packing::put_counters(words, c);
-    packing::put_record(words, who, w);
-}
 
 #[no_mangle]
 pub extern "C" fn ravencrumb_fresh(nodes: &mut [u32], entries: &mut [u32], words: &mut [u32]) -> u32
@@ -121,7 +73,7 @@ fn start_record(
     let given = out.answer;
     let w = encoding::encode_session(session);
     packing::put_record(words, who, w);
-    tell(answer, given)
+    calling::tell(answer, given)
 }
 
 fn start_session(
@@ -139,7 +91,7 @@ fn start_session(
     let w = packing::record_at(words, who);
     match encoding::decode_words(w) {
         Decoded::Record(s) => start_record(nodes, entries, words, answer, who, s, op),
-        Decoded::Malformed => refuse(answer, 8),
+        Decoded::Malformed => calling::refuse(answer, 8),
     }
 }
 
@@ -160,104 +112,16 @@ pub extern "C" fn ravencrumb_start(
         who kind first second ⌝ }
 {
     if answer.len() == 3 {
-        if right_lengths(nodes, entries, words) {
+        if calling::right_lengths(nodes, entries, words) {
             if 16 <= who {
-                return refuse(answer, 1);
+                return calling::refuse(answer, 1);
             }
             let op = encoding::op_from(kind, first, second);
             return start_session(nodes, entries, words, answer, who, op);
         }
-        return refuse(answer, 7);
+        return calling::refuse(answer, 7);
     }
     7
-}
-
-// Puts how many pairs are filled and how many steps were made behind an answer, and returns what the call returns.
-fn count_up(answer: &mut [u32], number: u32, count: u32, made: u32) -> u32
-    ensures { λ r. ⌜ told (now (answer .exit)) r ≡ told (tally (now (answer .entry)) count made) number ⌝ }
-{
-    table::store(answer, 5, 0, 3, count);
-    table::store(answer, 5, 0, 4, made);
-    number
-}
-
-fn stand_still(answer: &mut [u32], number: u32) -> u32
-    ensures { λ r. ⌜ told (now (answer .exit)) r
-        ≡ told (tally (putReply (now (answer .entry)) (refusedBy number)) 0 0) number ⌝ }
-{
-    let n = refuse(answer, number);
-    count_up(answer, n, 0, 0)
-}
-
-fn steps_record(
-    nodes: &mut [u32],
-    entries: &mut [u32],
-    words: &mut [u32],
-    pairs: &mut [u32],
-    answer: &mut [u32],
-    who: u32,
-    limit: u32,
-    s: Session,
-) -> u32
-    ensures { λ r. ⌜ strode (now (nodes .exit)) (now (entries .exit)) (now (words .exit)) (now (pairs .exit))
-        (now (answer .exit)) r
-        ≡ stepsRecord small (now (nodes .entry)) (now (entries .entry)) (now (words .entry)) (now (pairs .entry))
-        (now (answer .entry)) who limit s ⌝ }
-{
-    let c = packing::counters_at(words);
-    let out = several::steps(nodes, entries, pairs, c, who, s, limit);
-    let last = out.last;
-    let counters = last.counters;
-    let session = last.session;
-    let given = last.answer;
-    keep(words, who, counters, session);
-    let n = tell(answer, given);
-    count_up(answer, n, last.count, out.made)
-}
-
-fn steps_session(
-    nodes: &mut [u32],
-    entries: &mut [u32],
-    words: &mut [u32],
-    pairs: &mut [u32],
-    answer: &mut [u32],
-    who: u32,
-    limit: u32,
-) -> u32
-    ensures { λ r. ⌜ strode (now (nodes .exit)) (now (entries .exit)) (now (words .exit)) (now (pairs .exit))
-        (now (answer .exit)) r
-        ≡ stepsSession small (now (nodes .entry)) (now (entries .entry)) (now (words .entry)) (now (pairs .entry))
-        (now (answer .entry)) who limit ⌝ }
-{
-    let w = packing::record_at(words, who);
-    match encoding::decode_words(w) {
-        Decoded::Record(s) => steps_record(nodes, entries, words, pairs, answer, who, limit, s),
-        Decoded::Malformed => stand_still(answer, 8),
-    }
-}
-
-// The checks, and the steps on the record decoded.
-fn many(
-    nodes: &mut [u32],
-    entries: &mut [u32],
-    words: &mut [u32],
-    pairs: &mut [u32],
-    answer: &mut [u32],
-    who: u32,
-    limit: u32,
-) -> u32
-    ensures { λ r. ⌜ strode (now (nodes .exit)) (now (entries .exit)) (now (words .exit)) (now (pairs .exit))
-        (now (answer .exit)) r
-        ≡ manyCall small (now (nodes .entry)) (now (entries .entry)) (now (words .entry)) (now (pairs .entry))
-        (now (answer .entry)) who limit ⌝ }
-{
-    if right_lengths(nodes, entries, words) {
-        if 16 <= who {
-            return stand_still(answer, 1);
-        }
-        return steps_session(nodes, entries, words, pairs, answer, who, limit);
-    }
-    stand_still(answer, 7)
 }
 
 // Steps of one session: see crate several for when it ends. Key i handed out is word 2 i of `pairs`, its value the
@@ -278,7 +142,7 @@ pub extern "C" fn ravencrumb_steps(
         (now (answer .entry)) who limit ⌝ }
 {
     if answer.len() == 5 {
-        return many(nodes, entries, words, pairs, answer, who, limit);
+        return calling::many(nodes, entries, words, pairs, answer, who, limit);
     }
     7
 }
@@ -297,7 +161,7 @@ fn step_fully(
 {
     if answer.len() == 3 {
         let mut pair = [0; 2];
-        return many(nodes, entries, words, &mut pair, answer, who, 1);
+        return calling::many(nodes, entries, words, &mut pair, answer, who, 1);
     }
     7
 }
@@ -361,7 +225,7 @@ fn step_range(
         who ⌝ }
 {
     if answer.len() == 3 {
-        if right_lengths(nodes, entries, words) {
+        if calling::right_lengths(nodes, entries, words) {
             if who < 16 {
                 return step_ranging(nodes, entries, words, answer, who);
             }
@@ -431,7 +295,7 @@ pub extern "C" fn ravencrumb_step(
         who ⌝ }
 {
     if answer.len() == 3 {
-        if right_lengths(nodes, entries, words) {
+        if calling::right_lengths(nodes, entries, words) {
             if who < 16 {
                 return step_shortly(nodes, entries, words, answer, who);
             }

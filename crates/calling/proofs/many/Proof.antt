@@ -1,8 +1,8 @@
--- `ffi::many` meets its contract: each way out is a law of proofs/Ways.antt. Assumes nothing.
-use Rattle.ffi.proofs.Ways.{many-lengths, many-session, many-goes}
+-- `calling::many` meets its contract: each way out is a law of proofs/Ways.antt. Assumes nothing.
+use Rattle.calling.proofs.Ways.{many-lengths, many-session, many-goes}
 use borrow.Author.Needs.{needs}
-use Rattle.ffi.proofs.many.Statement.{statement}
-use Rattle.ffi.proofs.many.Tie as tie
+use Rattle.calling.proofs.many.Statement.{statement}
+use Rattle.calling.proofs.many.Tie as tie
 
 pub many-spec : {M : Type 1} → statement M
 many-spec =

@@ -1,0 +1,2 @@
+-- Each way through the checks and many steps.
+pub mod Ways

@@ -1,0 +1,2 @@
+-- What the library's calls have in common, and many steps in one call.
+pub mod Calling
