@@ -62,9 +62,9 @@ def middle(turns, name, what):
 
 
 def ratio(turns, one, other, what):
-    """The median over the turns of one's cost by the other's, and the least and the greatest."""
+    """One's cost by the other's: the median over the turns, and every turn's."""
     found = [t[one][what] / t[other][what] for t in turns if what in t.get(one, {}) and what in t.get(other, {})]
-    return (statistics.median(found), min(found), max(found)) if found else None
+    return (statistics.median(found), found) if found else None
 
 
 def shown(x):
@@ -91,10 +91,10 @@ def costs(of):
 def targets(turns, counts):
     said = dict(NAMES)
     rows = []
-    for one, how in [("ravencrumb", ""), ("stepwise", " (a call a step)")]:
+    for one, how in [("stepwise", " (a call a step)"), ("ravencrumb", " (many steps a call)")]:
         for what, other, most in TARGETS:
             rows.append(target(turns, counts, one, how, what, other, most, said))
-    return table(["ratio", "at most", "time", "over the turns", "instructions", ""], rows)
+    return table(["ratio", "at most", "time", "over the turns", "turns within", "instructions", ""], rows)
 
 
 def target(turns, counts, one, how, what, other, most, said):
@@ -104,7 +104,8 @@ def target(turns, counts, one, how, what, other, most, said):
         f"{dict(FIGURES)[what]}{how}, by {said[other]}'s",
         f"{most:.1f}",
         f"{r[0]:.2f}" if r else "-",
-        f"{r[1]:.2f} to {r[2]:.2f}" if r else "-",
+        f"{min(r[1]):.2f} to {max(r[1]):.2f}" if r else "-",
+        f"{sum(x <= most for x in r[1])} of {len(r[1])}" if r else "-",
         f"{c[0]:.2f}" if c else "-",
         "not measured" if not r else "reached" if r[0] <= most else "short",
     ]
@@ -141,10 +142,13 @@ PAGE = """# The benchmark
 
 {targets}
 
-"Time" is the median over {turns} turns of the ratio within a turn. A machine may be shared with other work, so the
-instruction counts, which repeat, are the figures to compare from one day to another. The same ratios of the twin,
-which say what a call a step costs where nothing is proved:
-{twin}.
+Like with like is the first row: the twin makes one step at a time too. The rows of many steps a call compare a call
+that joins steps with a twin that does not; they say what a user of that call pays, not how well a step is compiled.
+
+"Time" is the median over {turns} turns of the ratio within a turn, and the last column goes by it. Contenders are
+measured one after another, and the machine's speed changed by up to two times between them, so a single turn says
+little and the times are weak evidence; the instruction counts repeat. The same ratios of the twin, which say what a
+call a step costs where nothing is proved: {twin}.
 
 ## Nanoseconds
 
