@@ -1,4 +1,4 @@
-//! The contenders that need no crate from elsewhere: bench NAME [PASSES [LIVES]].
+//! The contenders that need no crate from elsewhere: bench NAME,NAME... [PASSES [LIVES]].
 mod ravencrumb;
 mod sorted;
 mod twin;
@@ -6,21 +6,28 @@ mod twin;
 #[cfg(feature = "lmdb")]
 mod lmdb;
 
-use bench::measure::{run, sizes};
+use bench::measure::{measured, run, sizes, Contender};
+
+fn contender(name: &str) -> Option<Box<dyn Contender>> {
+    Some(match name {
+        "ravencrumb" => measured::<ravencrumb::Many>("ravencrumb"),
+        "stepwise" => measured::<ravencrumb::Single>("stepwise"),
+        "twin" => measured::<twin::Twin>("twin"),
+        "sorted" => measured::<sorted::Sorted>("sorted"),
+        #[cfg(feature = "lmdb")]
+        "lmdb" => measured::<lmdb::Lmdb>("lmdb"),
+        _ => return None,
+    })
+}
 
 fn main() {
     let mut args = std::env::args().skip(1);
-    let name = args.next().unwrap_or_default();
+    let names = args.next().unwrap_or_default();
     let (passes, lives) = sizes(args);
-    match name.as_str() {
-        "ravencrumb" => run(&name, &mut ravencrumb::Many::default(), passes, lives),
-        "stepwise" => run(&name, &mut ravencrumb::Single::default(), passes, lives),
-        "twin" => run(&name, &mut twin::Twin::default(), passes, lives),
-        "sorted" => run(&name, &mut sorted::Sorted::default(), passes, lives),
-        #[cfg(feature = "lmdb")]
-        "lmdb" => run(&name, &mut lmdb::Lmdb::default(), passes, lives),
-        _ => {
-            eprintln!("bench: no contender of that name: {name:?}");
+    match names.split(',').map(contender).collect() {
+        Some(contenders) => run(contenders, passes, lives),
+        None => {
+            eprintln!("bench: not all of these are contenders: {names:?}");
             std::process::exit(2);
         }
     }

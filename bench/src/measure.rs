@@ -1,4 +1,4 @@
-//! Measuring one contender. In order: what a contender does; the two timed functions; one pass; the program.
+//! Measuring contenders. In order: what a register does; the two timed functions; one life; contenders in turn.
 //! A clock is read around whole parts only (a quarter of a range, 32 updates); its own cost is taken off.
 //! Every range is compared with the model, outside the time.
 use crate::workload::{life, Life, Update, FIRST_KEYS, PARTS};
@@ -121,27 +121,70 @@ fn live<R: Register>(r: &mut R, life: &Life, clock: f64, range: &mut Sum, update
     assert!(r.close() && out == life.left, "what is left is the model");
 }
 
-/// Prints the name, then nanoseconds, steps and count of the ranges and of the updates. With one pass there is none to
-/// warm up, so that what is counted from outside is what is printed.
-pub fn run<R: Register>(name: &str, r: &mut R, passes: usize, lives: u64) {
+/// A contender with what was measured of it so far.
+pub struct Measured<R> {
+    name: &'static str,
+    register: R,
+    ranges: Vec<Sum>,
+    updates: Vec<Sum>,
+}
+
+/// What is asked of each contender in turn.
+pub trait Contender {
+    /// One life, not measured.
+    fn warm(&mut self, life: &Life);
+    /// Another pass begins.
+    fn pass(&mut self);
+    fn live(&mut self, life: &Life, clock: f64);
+    /// The name, then nanoseconds, steps and count of the ranges and of the updates.
+    fn told(&self) -> String;
+}
+
+pub fn measured<R: Register + Default + 'static>(name: &'static str) -> Box<dyn Contender> {
+    Box::new(Measured { name, register: R::default(), ranges: Vec::new(), updates: Vec::new() })
+}
+
+impl<R: Register> Contender for Measured<R> {
+    fn warm(&mut self, life: &Life) {
+        live(&mut self.register, life, 0.0, &mut Sum::default(), &mut Sum::default());
+    }
+
+    fn pass(&mut self) {
+        self.ranges.push(Sum::default());
+        self.updates.push(Sum::default());
+    }
+
+    fn live(&mut self, life: &Life, clock: f64) {
+        let (range, update) = (self.ranges.last_mut(), self.updates.last_mut());
+        live(&mut self.register, life, clock, range.expect("a pass"), update.expect("a pass"));
+    }
+
+    fn told(&self) -> String {
+        format!("{} {} {}", self.name, told(&self.ranges), told(&self.updates))
+    }
+}
+
+/// Prints a line for each contender. They live each life one after another, another of them first each time, so that
+/// what slows the machine for longer than a life slows all of them. With one pass there is none to warm up, so that
+/// what is counted from outside is what is printed.
+pub fn run(mut contenders: Vec<Box<dyn Contender>>, passes: usize, lives: u64) {
     let inputs: Vec<Life> = (0..lives).map(life).collect();
     let clock = clock_cost();
     if passes > 1 {
-        live(r, &life(lives), clock, &mut Sum::default(), &mut Sum::default());
+        let first = life(lives);
+        contenders.iter_mut().for_each(|c| c.warm(&first));
     }
-    let (mut ranges, mut updates) = (Vec::new(), Vec::new());
     for _ in 0..passes.max(1) {
-        let (mut range, mut update) = (Sum::default(), Sum::default());
+        contenders.iter_mut().for_each(|c| c.pass());
         for l in &inputs {
-            live(r, l, clock, &mut range, &mut update);
+            contenders.iter_mut().for_each(|c| c.live(l, clock));
+            contenders.rotate_left(1);
         }
-        ranges.push(range);
-        updates.push(update);
     }
-    println!("{name} {} {}", told(&ranges), told(&updates));
+    contenders.iter().for_each(|c| println!("{}", c.told()));
 }
 
-/// The numbers after the contender's name on the command line: passes, and lives a pass.
+/// The numbers after the contenders' names on the command line: passes, and lives a pass.
 pub fn sizes(mut rest: impl Iterator<Item = String>) -> (usize, u64) {
     let mut number = |otherwise: u64| rest.next().and_then(|a| a.parse().ok()).unwrap_or(otherwise);
     (number(9) as usize, number(20))

@@ -1,6 +1,6 @@
 //! concread's B+tree map: tree NAME [PASSES [LIVES]]. An update is one write transaction; a range iterates over a read
 //! transaction opened at its start.
-use bench::measure::{run, sizes, Register};
+use bench::measure::{measured, run, sizes, Register};
 use concread::bptree::{BptreeMap, BptreeMapReadTxn};
 
 type Pairs<'a> = Box<dyn Iterator<Item = (&'a u32, &'a u32)> + 'a>;
@@ -70,5 +70,5 @@ impl Register for Tree {
 
 fn main() {
     let (passes, lives) = sizes(std::env::args().skip(2));
-    run("concread", &mut Tree::default(), passes, lives);
+    run(vec![measured::<Tree>("concread")], passes, lives);
 }

@@ -5,7 +5,7 @@
 use Prim.Native.Nat.{ℕ}
 use mathlib.Core.Path.{_≡_, ap}
 use mathlib.Core.List.{List}
-use mathlib.Core.Bool.{true}
+use mathlib.Core.Bool.{Bool, true}
 use lib.ListN.{length}
 use lib.Dec.{eqb}
 use borrow.Author.Tests.{lt-ltb, eq-eqb}
@@ -13,6 +13,7 @@ use Rattle.terms.specs.declared.Size.{Size}
 use Rattle.terms.specs.declared.Answer.{Answer}
 use Rattle.steps.specs.Steps.{done, gives}
 use Rattle.register.specs.Register.{fits, stepOf}
+use Rattle.encoding.specs.declared.OpWords.{OpWords}
 use Rattle.encoding.specs.declared.PhaseWords.{PhaseWords}
 use Rattle.encoding.specs.declared.Words.{Words}
 use Rattle.encoding.specs.Encoding.{opWords, sessionFrom}
@@ -23,11 +24,11 @@ use Rattle.packing.proofs.Same.{counters-same, op-same, walk-put, lead-put, han
 use Rattle.exchange.specs.Exchange.{wordsRoom, left}
 use Rattle.shortly.specs.declared.Walked.{Walked}
 use Rattle.shortly.specs.declared.Ranged.{Ranged}
-use Rattle.shortly.specs.Shortly.{named, walkShortly, rangeShortly}
-use Rattle.shortly.specs.Told.{Agrees, WalkTold, RangeTold}
+use Rattle.shortly.specs.Shortly.{seeksOf, walkShortly, rangeShortly}
+use Rattle.shortly.specs.Told.{named, Agrees, WalkTold, RangeTold}
 use Rattle.shortly.proofs.Agrees.{walk-is-step, range-is-step}
 use Rattle.calling.specs.Calling.{lengthsFit, kept}
-use Rattle.ffi.specs.Ffi.{admitted, heard, went, stepRecord, stepSession, stepCall}
+use Rattle.ffi.specs.Ffi.{admitted, walker, heard, went, stepRecord, stepSession, stepCall}
 
 module _ (z : Size) (ns es ws out : List ℕ) (who : ℕ) (ready : admitted z ns es ws out who) where
   -- ---- the call's checks
@@ -59,15 +60,6 @@ module _ (z : Size) (ns es ws out : List ℕ) (who : ℕ) (ready : admitted z ns
 
   -- ---- each way out
   module _ (w : Words) (r : Reply) (ws′ out′ : List ℕ) (n : ℕ) (words : w ≡ recordAt ws who) where
-    pub walks-shortly : (x : Walked) (next : ℕ) → x ≡ walkShortly z ns w → x ≡ Walked.On next
-        → r ≡ replyOf Answer.Working → heard ws′ out′ n ≡ went ws out who 7 (w .phase .b) 8 next r
-        → left ns es ws′ out′ n ≡ stepCall z ns es ws out who
-    walks-shortly x next e goes says puts =
-        let told : walkShortly z ns (recordAt ws who) ≡ Walked.On next = rw (← words, ← e, goes) in
-        let g : WalkTold z ns es (recordAt ws who) (Walked.On next)
-        = rw told at (walk-is-step z ns es (recordAt ws who)) in
-        cc (short-steps _ _ g, walk-put ws who (phaseAt ws who .b) next)
-
     module _ (x : Ranged) (e : x ≡ rangeShortly z ns es w) where
       pub leads-shortly : (f to : ℕ) → x ≡ Ranged.Leads f to → r ≡ replyOf Answer.Working
           → heard ws′ out′ n ≡ went ws out who 6 f 7 to r → left ns es ws′ out′ n ≡ stepCall z ns es ws out who
@@ -84,3 +76,19 @@ module _ (z : Size) (ns es ws out : List ℕ) (who : ℕ) (ready : admitted z ns
           let g : RangeTold z ns es (recordAt ws who) (Ranged.Hands m k v)
           = rw told at (range-is-step z ns es (recordAt ws who)) in
           cc (short-steps _ _ g, hand-put ws who 11 m)
+
+pub seeks-first : (z : Size) (ns es ws out : List ℕ) (who : ℕ) (o : OpWords) (b : Bool) → admitted z ns es ws out who
+    → o ≡ opAt ws who → b ≡ seeksOf o → b ≡ true → walker z ns es ws out who (o .first)
+seeks-first z ns es ws out who o b ready op seeks h = (ready, (cc), (cc))
+
+module _ (z : Size) (ns es ws out : List ℕ) (who sought : ℕ) (ready : walker z ns es ws out who sought) where
+  pub walks-shortly : (p : PhaseWords) (r : Reply) (x : Walked) (next n : ℕ) (ws′ out′ : List ℕ)
+      → p ≡ phaseAt ws who → x ≡ walkShortly z ns sought p → x ≡ Walked.On next
+      → r ≡ replyOf Answer.Working → heard ws′ out′ n ≡ went ws out who 7 (p .b) 8 next r
+      → left ns es ws′ out′ n ≡ stepCall z ns es ws out who
+  walks-shortly p r x next n ws′ out′ phase e goes says puts =
+      let told : walkShortly z ns (opAt ws who .first) (phaseAt ws who) ≡ Walked.On next
+      = rw (← ready .2, ← phase, ← e, goes) in
+      let g : WalkTold z ns es (recordAt ws who) (Walked.On next)
+      = rw told at (walk-is-step z ns es (recordAt ws who) (ready .1)) in
+      cc (short-steps z ns es ws out who (ready .0) _ _ g, walk-put ws who (phaseAt ws who .b) next)

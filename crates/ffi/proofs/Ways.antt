@@ -1,12 +1,13 @@
 -- Each way out of the calls for other programs, over plain values.
 -- In order: fresh; start; step; several steps. Assumes nothing.
 use Prim.Native.Nat.{ℕ, _≤_, _<_}
-use mathlib.Core.Path.{_≡_, _∙_}
+use mathlib.Core.Path.{_≡_, sym, _∙_}
 use mathlib.Core.List.{List}
-use mathlib.Core.Bool.{Bool, true, false}
+use mathlib.Core.Bool.{Bool, true, false, cond}
 use lib.ListN.{length}
+use lib.Dec.{eqb}
 use borrow.Author.Tests.{lt-ltb, le-ltb, eq-eqb, ne-eqb}
-use Rattle.terms.specs.Terms.{refusalNumber}
+use Rattle.terms.specs.Terms.{small, refusalNumber}
 use Rattle.terms.specs.declared.Size.{Size}
 use Rattle.terms.specs.declared.Counters.{Counters}
 use Rattle.terms.specs.declared.Op.{Op}
@@ -20,10 +21,11 @@ use Rattle.encoding.specs.declared.Decoded.{Decoded}
 use Rattle.encoding.specs.Encoding.{encode, opFrom, decode}
 use Rattle.packing.specs.Packing.{recordAt, putRecord, freshWords, refusedBy}
 use Rattle.packing.specs.Packing.{putReply}
-use Rattle.exchange.specs.Exchange.{told, left}
+use Rattle.exchange.specs.Exchange.{Told, told, left, stays}
 use Rattle.calling.specs.Calling.{lengthsFit, refusal, answered}
 use Rattle.ffi.specs.Ffi.{cleared, freshCall, Heard, heard}
 use Rattle.calling.specs.Calling.{Strode, strode, tally, manyCall}
+use Rattle.calling.proofs.Ways.{fit-words, fit-entries-not, fit-nodes-not}
 use Rattle.ffi.specs.Ffi.{stepsCall}
 use Rattle.ffi.specs.Ffi.{startRecord, startSession, startCall, stepCall}
 
@@ -91,10 +93,59 @@ pub ruleset start-sessions = (starts-decoded, starts-malformed)
 pub ruleset starts = (start-silent, start-lengths, start-session, start-goes)
 
 -- ---- step
-module _ (z : Size) (ns es ws out : List ℕ) (who : ℕ) where
-  pub step-silent : (length out ≡ 3 → ⊥) → left ns es ws out 7 ≡ stepCall z ns es ws out who
-  unfolding stepCall
-  step-silent h = rw (ne-eqb _ _ h)
+module _ (ns es ws : List ℕ) where
+  pub fit-all : length ns ≡ 3072 → length es ≡ 8192 → length ws ≡ 147 → lengthsFit small ns es ws ≡ true
+  fit-all hn he hw = sym (fit-words ns es ws hn he) ∙ eq-eqb _ _ hw
+
+  module _ (out : List ℕ) (who : ℕ) where
+    pub step-silent : (length out ≡ 3 → ⊥) → left ns es ws out 7 ≡ stepCall small ns es ws out who
+    unfolding stepCall
+    step-silent h = rw (ne-eqb _ _ h)
+
+    module _ (out′ : List ℕ) (n : ℕ) (three : length out ≡ 3) where
+      step-unfit : false ≡ lengthsFit small ns es ws → told out′ n ≡ refusal out 7
+          → left ns es ws out′ n ≡ stepCall small ns es ws out who
+      unfolding stepCall
+      step-unfit h e = rw (eq-eqb _ _ three, ← h) (cc)
+
+      step-unknown : (b : Bool) → told out′ n ≡ refusal out (cond b 1 7)
+          → left ns es ws out′ n ≡ cond b (stays ns es ws out 1) (stays ns es ws out 7)
+      step-unknown true e = cc
+      step-unknown false e = cc
+
+      pub step-nodes : (length ns ≡ 3072 → ⊥) → told out′ n ≡ refusal out 7
+          → left ns es ws out′ n ≡ stepCall small ns es ws out who
+      step-nodes h e = step-unfit (fit-nodes-not ns es ws h) e
+
+      module _ (nodes : length ns ≡ 3072) where
+        pub step-entries : (length es ≡ 8192 → ⊥) → told out′ n ≡ refusal out 7
+            → left ns es ws out′ n ≡ stepCall small ns es ws out who
+        step-entries h e = step-unfit (fit-entries-not ns es ws nodes h) e
+
+        module _ (entries : length es ≡ 8192) where
+          pub step-words : (length ws ≡ 147 → ⊥) → told out′ n ≡ refusal out 7
+              → left ns es ws out′ n ≡ stepCall small ns es ws out who
+          step-words h e = step-unfit (sym (ne-eqb _ _ h) ∙ fit-words ns es ws nodes entries) e
+
+          pub step-session : 16 ≤ who → told out′ n ≡ refusal out (cond (eqb (length ws) 147) 1 7)
+              → left ns es ws out′ n ≡ stepCall small ns es ws out who
+          unfolding stepCall
+          step-session h e =
+              rw (eq-eqb _ _ three, ← fit-words ns es ws nodes entries, le-ltb who 16 h)
+              (step-unknown (eqb (length ws) 147) e)
+
+pub ruleset unstepped = (step-silent, step-nodes)
+
+pub ruleset checked-steps = (fit-all, step-entries, step-words, step-session)
+
+module _ (ws out : List ℕ) (t : Told) where
+  pub unknown-session : length ws ≡ 147 → t ≡ refusal out 1 → t ≡ refusal out (cond (eqb (length ws) 147) 1 7)
+  unknown-session h e = rw (eq-eqb _ _ h, e)
+
+  pub unknown-words : (length ws ≡ 147 → ⊥) → t ≡ refusal out 7 → t ≡ refusal out (cond (eqb (length ws) 147) 1 7)
+  unknown-words h e = rw (ne-eqb _ _ h, e)
+
+pub ruleset unknown = (unknown-session, unknown-words)
 
 -- ---- several steps
 module _ (z : Size) (ns es ws ps out : List ℕ) (who limit : ℕ) where

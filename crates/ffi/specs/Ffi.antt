@@ -21,9 +21,10 @@ use Rattle.register.specs.declared.Opened.{Opened}
 use Rattle.register.specs.Register.{Fresh, opened, freshOf, startOf, stepOf}
 use Rattle.encoding.specs.Encoding.{encode, opFrom, decode}
 use Rattle.packing.specs.declared.Reply.{Reply}
-use Rattle.packing.specs.Packing.{countersAt, recordAt, putRecord, freshWords, refusedBy, replyOf}
+use Rattle.packing.specs.Packing.{countersAt, opAt, recordAt, putRecord, freshWords, refusedBy, replyOf}
 use Rattle.exchange.specs.Exchange.{wordsRoom, Left, left, stays}
 use Rattle.packing.specs.Packing.{putTwo, numberOf, putReply}
+use Rattle.shortly.specs.Shortly.{seeksOf}
 use Rattle.calling.specs.Calling.{lengthsFit, onDecoded, kept, Strode, strode, standsStill, stepsSession}
 
 -- what start, step and steps check first, in this order: an answer of another length stays as it is; 7; 1
@@ -34,6 +35,11 @@ checked room z ns es ws out who silent refused goes =
 -- what has passed these checks
 abbrev pub admitted : Size → List ℕ → List ℕ → List ℕ → List ℕ → ℕ → Type 0
 admitted z ns es ws out who = (length out ≡ 3) × (lengthsFit z ns es ws ≡ true) × (who < 16)
+
+-- and, with words of an operation that seeks this key
+abbrev pub walker : Size → List ℕ → List ℕ → List ℕ → List ℕ → ℕ → ℕ → Type 0
+walker z ns es ws out who sought =
+    admitted z ns es ws out who × (seeksOf (opAt ws who) ≡ true) × (sought ≡ opAt ws who .first)
 
 -- ---- fresh
 pub data Cleared : Type 0 where

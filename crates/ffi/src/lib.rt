@@ -7,8 +7,11 @@
 // Not here: the checks, answering and many steps (crate calling), what the calls mean (crate register). Assumes
 // nothing.
 ghost use mathlib.Core.Path.{_≡_};
+ghost use mathlib.Core.Bool.{cond};
+ghost use lib.ListN.{length};
+ghost use lib.Dec.{eqb};
 ghost use Rattle.terms.specs.Terms.{small};
-ghost use Rattle.calling.specs.Calling.{strode};
+ghost use Rattle.calling.specs.Calling.{refusal, strode};
 ghost use Rattle.ffi.specs.Ffi.{
   cleared,
   freshCall,
@@ -18,11 +21,12 @@ ghost use Rattle.ffi.specs.Ffi.{
   startCall,
   went,
   admitted,
+  walker,
   stepCall,
   stepsCall,
 };
 ghost use Rattle.listing.specs.Listing.{keyRoom};
-ghost use Rattle.exchange.specs.Exchange.{left, wrote, writeCall, readCall};
+ghost use Rattle.exchange.specs.Exchange.{told, left, wordsRoom, wrote, writeCall, readCall};
 use encoding::Decoded;
 use packing::A;
 use packing::B;
@@ -147,7 +151,7 @@ pub extern "C" fn ravencrumb_steps(
     7
 }
 
-// The whole call: one of many steps. No key is looked for in the pair lent to it.
+// The whole step: one of many. No key is looked for in the pair lent to it.
 fn step_fully(
     nodes: &mut [u32],
     entries: &mut [u32],
@@ -155,15 +159,13 @@ fn step_fully(
     answer: &mut [u32],
     who: u32,
 ) -> u32
+    requires { ⌜ admitted small (now nodes) (now entries) (now words) (now answer) who ⌝ }
     ensures { λ r. ⌜ left (now (nodes .exit)) (now (entries .exit)) (now (words .exit)) (now (answer .exit)) r
         ≡ stepCall small (now (nodes .entry)) (now (entries .entry)) (now (words .entry)) (now (answer .entry))
         who ⌝ }
 {
-    if answer.len() == 3 {
-        let mut pair = [0; 2];
-        return calling::many(nodes, entries, words, &mut pair, answer, who, 1);
-    }
-    7
+    let mut pair = [0; 2];
+    calling::many(nodes, entries, words, &mut pair, answer, who, 1)
 }
 
 // Puts what a short way tells: the two words that change, and the answer, which is no refusal.
@@ -211,8 +213,8 @@ fn step_ranging(
     }
 }
 
-// A range's step, by its short way where it leads. It tests the lengths again because it compiles to a function of its
-// own, so that a walk's step saves no registers for a range's loop.
+// A range's step, which compiles to a function of its own, so that a walk's step saves no registers for a range's loop.
+// What is admitted is tested again because compiled code does not know it there, and each use of a table would test it.
 fn step_range(
     nodes: &mut [u32],
     entries: &mut [u32],
@@ -220,6 +222,7 @@ fn step_range(
     answer: &mut [u32],
     who: u32,
 ) -> u32
+    requires { ⌜ admitted small (now nodes) (now entries) (now words) (now answer) who ⌝ }
     ensures { λ r. ⌜ left (now (nodes .exit)) (now (entries .exit)) (now (words .exit)) (now (answer .exit)) r
         ≡ stepCall small (now (nodes .entry)) (now (entries .entry)) (now (words .entry)) (now (answer .entry))
         who ⌝ }
@@ -234,7 +237,31 @@ fn step_range(
     step_fully(nodes, entries, words, answer, who)
 }
 
+// Of an operation that seeks this key.
 fn step_walking(
+    nodes: &mut [u32],
+    entries: &mut [u32],
+    words: &mut [u32],
+    answer: &mut [u32],
+    who: u32,
+    sought: u32,
+) -> u32
+    requires { ⌜ walker small (now nodes) (now entries) (now words) (now answer) who sought ⌝ }
+    ensures { λ r. ⌜ left (now (nodes .exit)) (now (entries .exit)) (now (words .exit)) (now (answer .exit)) r
+        ≡ stepCall small (now (nodes .entry)) (now (entries .entry)) (now (words .entry)) (now (answer .entry))
+        who ⌝ }
+{
+    let p = packing::phase_at(words, who);
+    match shortly::walk(nodes, sought, p) {
+        Walked::On(next) => {
+            let reply = packing::say(Answer::Working);
+            go(words, answer, who, A, p.b, B, next, reply)
+        }
+        Walked::Long => step_fully(nodes, entries, words, answer, who),
+    }
+}
+
+fn step_seeking(
     nodes: &mut [u32],
     entries: &mut [u32],
     words: &mut [u32],
@@ -246,15 +273,11 @@ fn step_walking(
         ≡ stepCall small (now (nodes .entry)) (now (entries .entry)) (now (words .entry)) (now (answer .entry))
         who ⌝ }
 {
-    let w = packing::record_at(words, who);
-    match shortly::walk(nodes, w) {
-        Walked::On(next) => {
-            let p = w.phase;
-            let reply = packing::say(Answer::Working);
-            go(words, answer, who, A, p.b, B, next, reply)
-        }
-        Walked::Long => step_fully(nodes, entries, words, answer, who),
+    let o = packing::op_at(words, who);
+    if shortly::seeks(o) {
+        return step_walking(nodes, entries, words, answer, who, o.first);
     }
+    step_range(nodes, entries, words, answer, who)
 }
 
 // A walk's way is tried for a walk alone, and a range's for Follow and Hand.
@@ -272,7 +295,7 @@ fn step_shortly(
 {
     let phase = packing::phase_number(words, who);
     if phase == 1 {
-        return step_walking(nodes, entries, words, answer, who);
+        return step_seeking(nodes, entries, words, answer, who);
     }
     if 11 <= phase {
         return step_range(nodes, entries, words, answer, who);
@@ -280,8 +303,43 @@ fn step_shortly(
     step_fully(nodes, entries, words, answer, who)
 }
 
-// By a short way where one leads: nearly all steps are a walk's or a range's. Each other way calls by itself, which
-// compiles to less than one call that all of them share.
+fn refuse_session(words: &[u32], answer: &mut [u32]) -> u32
+    ensures { λ r. ⌜ told (now (answer .exit)) r
+        ≡ refusal (now (answer .entry)) (cond (eqb (length (now (words .entry))) wordsRoom) 1 7) ⌝ }
+{
+    if words.len() == 147 {
+        return calling::refuse(answer, 1);
+    }
+    calling::refuse(answer, 7)
+}
+
+// The other checks, where the nodes and the answer have their lengths.
+fn step_checked(
+    nodes: &mut [u32],
+    entries: &mut [u32],
+    words: &mut [u32],
+    answer: &mut [u32],
+    who: u32,
+) -> u32
+    requires { ⌜ (length (now nodes) ≡ 3072) × (length (now answer) ≡ 3) ⌝ }
+    ensures { λ r. ⌜ left (now (nodes .exit)) (now (entries .exit)) (now (words .exit)) (now (answer .exit)) r
+        ≡ stepCall small (now (nodes .entry)) (now (entries .entry)) (now (words .entry)) (now (answer .entry))
+        who ⌝ }
+{
+    if entries.len() == 8192 {
+        if who < 16 {
+            if words.len() == 147 {
+                return step_shortly(nodes, entries, words, answer, who);
+            }
+            return calling::refuse(answer, 7);
+        }
+        return refuse_session(words, answer);
+    }
+    calling::refuse(answer, 7)
+}
+
+// By a short way where one leads: nearly all steps are a walk's or a range's. The checks stand in an order in which no
+// two in a row lead to the same refusal: compiled code would make one test of the two, which costs more than both.
 #[no_mangle]
 pub extern "C" fn ravencrumb_step(
     nodes: &mut [u32],
@@ -294,16 +352,16 @@ pub extern "C" fn ravencrumb_step(
         ≡ stepCall small (now (nodes .entry)) (now (entries .entry)) (now (words .entry)) (now (answer .entry))
         who ⌝ }
 {
-    if answer.len() == 3 {
-        if calling::right_lengths(nodes, entries, words) {
-            if who < 16 {
-                return step_shortly(nodes, entries, words, answer, who);
-            }
-            return step_range(nodes, entries, words, answer, who);
+    if nodes.len() == 3072 {
+        if answer.len() == 3 {
+            return step_checked(nodes, entries, words, answer, who);
         }
-        return step_range(nodes, entries, words, answer, who);
+        return 7;
     }
-    step_range(nodes, entries, words, answer, who)
+    if answer.len() == 3 {
+        return calling::refuse(answer, 7);
+    }
+    7
 }
 
 #[no_mangle]

@@ -14,8 +14,8 @@ use Rattle.encoding.specs.declared.PhaseWords.{PhaseWords}
 use Rattle.encoding.specs.declared.Words.{Words}
 use Rattle.encoding.specs.Encoding.{kindWith, phaseWith}
 use Rattle.packing.specs.declared.Reply.{Reply}
-use Rattle.packing.specs.Packing.{countersAt, recordAt, putCounters, putOp, putFront, putBack, putRecord}
-use Rattle.packing.specs.Packing.{putPhase, putTwo, freshWords}
+use Rattle.packing.specs.Packing.{countersAt, opAt, phaseAt, recordAt, putCounters, putOp, putFront, putBack}
+use Rattle.packing.specs.Packing.{putRecord, putPhase, putTwo, freshWords}
 use Rattle.packing.specs.Packing.{replyWith, refusedBy, replyOf, numberOf, putReply}
 
 -- ---- words read
@@ -24,11 +24,18 @@ module _ (ws : List ℕ) (a b c : ℕ) where
       → record { nodes = a; entries = b; stamp = c } ≡ countersAt ws
   reads-counters ha hb hc = cc
 
-  pub reads-record : (who p v w x y z : ℕ) → a ≡ wordOf 9 ws who 3 → b ≡ wordOf 9 ws who 4 → c ≡ wordOf 9 ws who 5
-      → p ≡ wordOf 9 ws who 6 → v ≡ wordOf 9 ws who 7 → w ≡ wordOf 9 ws who 8 → x ≡ wordOf 9 ws who 9
-      → y ≡ wordOf 9 ws who 10 → z ≡ wordOf 9 ws who 11
-      → record { op = kindWith a b c; phase = phaseWith p v w x y z } ≡ recordAt ws who
-  reads-record who p v w x y z ha hb hc hp hv hw hx hy hz = cc
+  pub reads-op : (who : ℕ) → a ≡ wordOf 9 ws who 3 → b ≡ wordOf 9 ws who 4 → c ≡ wordOf 9 ws who 5
+      → kindWith a b c ≡ opAt ws who
+  reads-op who ha hb hc = cc
+
+  pub reads-phase : (who x y z : ℕ) → x ≡ wordOf 9 ws who 6 → y ≡ wordOf 9 ws who 7 → z ≡ wordOf 9 ws who 8
+      → a ≡ wordOf 9 ws who 9 → b ≡ wordOf 9 ws who 10 → c ≡ wordOf 9 ws who 11
+      → phaseWith x y z a b c ≡ phaseAt ws who
+  reads-phase who x y z hx hy hz ha hb hc = cc
+
+pub reads-record : (ws : List ℕ) (who : ℕ) (o : OpWords) (p : PhaseWords) → o ≡ opAt ws who → p ≡ phaseAt ws who
+    → record { op = o; phase = p } ≡ recordAt ws who
+reads-record ws who o p ho hp = cc
 
 -- ---- stores one after the other
 module _ (ws a b c : List ℕ) where

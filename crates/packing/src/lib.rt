@@ -9,6 +9,8 @@ ghost use Rattle.terms.specs.Terms.{refusalNumber};
 ghost use Rattle.packing.specs.Packing.{
   countersAt,
   putCounters,
+  opAt,
+  phaseAt,
   recordAt,
   phaseNumber,
   putOp,
@@ -64,22 +66,34 @@ pub fn put_counters(words: &mut [u32], c: Counters)
     table::store(words, 9, 0, 2, c.stamp);
 }
 
-pub fn record_at(words: &[u32], who: u32) -> Words
-    ensures { λ r. ⌜ r ≡ recordAt (now (words .entry)) who ⌝ }
+pub fn op_at(words: &[u32], who: u32) -> OpWords
+    ensures { λ r. ⌜ r ≡ opAt (now (words .entry)) who ⌝ }
 {
-    let op = OpWords {
+    OpWords {
         kind: table::word(words, 9, who, 3),
         first: table::word(words, 9, who, 4),
         second: table::word(words, 9, who, 5),
-    };
-    let phase = PhaseWords {
+    }
+}
+
+pub fn phase_at(words: &[u32], who: u32) -> PhaseWords
+    ensures { λ r. ⌜ r ≡ phaseAt (now (words .entry)) who ⌝ }
+{
+    PhaseWords {
         phase: table::word(words, 9, who, 6),
         a: table::word(words, 9, who, 7),
         b: table::word(words, 9, who, 8),
         c: table::word(words, 9, who, 9),
         d: table::word(words, 9, who, 10),
         e: table::word(words, 9, who, 11),
-    };
+    }
+}
+
+pub fn record_at(words: &[u32], who: u32) -> Words
+    ensures { λ r. ⌜ r ≡ recordAt (now (words .entry)) who ⌝ }
+{
+    let op = op_at(words, who);
+    let phase = phase_at(words, who);
     Words { op, phase }
 }
 

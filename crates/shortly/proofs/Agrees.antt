@@ -4,7 +4,7 @@
 use Prim.Native.Nat.{ℕ, _+_, _≤_, _<_}
 use mathlib.Core.Path.{_≡_, refl, sym, ap, _∙_}
 use mathlib.Core.List.{List}
-use mathlib.Core.Bool.{Bool, true, cond}
+use mathlib.Core.Bool.{Bool, true, false, cond}
 use native.Mathlib.Omega.{arith}
 use borrow.Author.Tests.{le-leb, ltb-true, leb-true, eqb-true}
 use Rattle.order.proofs.Tests.{cond-cases, ltb-cases, eqb-cases}
@@ -22,16 +22,31 @@ use Rattle.reading.proofs.Ways.{walk-on, range-on, range-in, follow-leads, hand
 use Rattle.encoding.specs.declared.PhaseWords.{PhaseWords}
 use Rattle.encoding.specs.declared.Words.{Words}
 use Rattle.encoding.specs.declared.Decoded.{Decoded}
-use Rattle.encoding.specs.Encoding.{phaseWords, phaseFrom, sessionFrom, opRight, decode}
+use Rattle.encoding.specs.Encoding.{opWords, phaseWords, phaseFrom, sessionFrom, opRight, decode}
 use Rattle.encoding.proofs.Ways.{is-walk, is-follow, is-hand, is-walking, is-reading, is-range, right-range}
 use Rattle.encoding.proofs.Ways.{front-all, front-last, back-walks, back-last}
 use Rattle.encoding.proofs.Trip.{three-same, right-decodes}
 use Rattle.packing.specs.Packing.{replyWith, replyOf, numberOf}
 use Rattle.shortly.specs.declared.Walked.{Walked}
 use Rattle.shortly.specs.declared.Ranged.{Ranged}
-use Rattle.shortly.specs.Shortly.{movesOn, named, walkZeros, walkShortly, seesShortly, onTaken, followShortly}
-use Rattle.shortly.specs.Shortly.{handShortly, rangeZeros, rangeShortly}
-use Rattle.shortly.specs.Told.{Agrees, movedTo, ledTo, handedOut, WalkTold, RangeTold}
+use Rattle.shortly.specs.Shortly.{movesOn, seeksOf, walkZeros, walkShortly, seesShortly, onTaken}
+use Rattle.shortly.specs.Shortly.{followShortly, handShortly, rangeZeros, rangeShortly}
+use Rattle.shortly.specs.Told.{named, Agrees, movedTo, ledTo, handedOut, WalkTold, RangeTold}
+
+-- ---- the operation that the words say
+op-sought : (op : Op) → soughtOf op ≡ opWords op .first
+op-sought Op.None = refl
+op-sought (Op.Insert key value) = refl
+op-sought (Op.Remove key) = refl
+op-sought (Op.Has key) = refl
+op-sought (Op.Range low high) = refl
+
+op-named : (op : Op) → (opWords op .kind ≡ 0 → ⊥) → namesOf op ≡ true
+op-named Op.None h = absurd (h refl)
+op-named (Op.Insert key value) h = refl
+op-named (Op.Remove key) h = refl
+op-named (Op.Has key) h = refl
+op-named (Op.Range low high) h = refl
 
 -- ---- the phase that the words say
 module _ (w : PhaseWords) where
@@ -66,22 +81,32 @@ module _ (z : Size) (ns es : List ℕ) (w : Words) where
       }
 
   -- ---- Walk
-  module _ (one : w .phase .phase ≡ 1) (unused : walkZeros w ≡ true) (right : opRight (w .op) ≡ true) where
-    walk-read : decode w ≡ Decoded.Record (sessionFrom w)
-    walk-read =
-        right-decodes w right (sym (front-all (w .phase) (omega arith) (omega arith)))
-        (sym (back-walks (w .phase) true (omega arith) (sym unused)))
+  module _ (some : w .op .kind ≡ 0 → ⊥) (right : opRight (w .op) ≡ true) where
+    walk-sought : soughtOf (named w) ≡ w .op .first
+    unfolding opRight
+    walk-sought = op-sought (named w) ∙ sym (three-same _ _ _ _ _ _ right .1)
 
-    walk-words : (n : ℕ) → phaseWords (Phase.Walk (w .phase .b) n) ≡ movedTo (w .phase) n
-    walk-words n = let zeros = three-same _ _ _ _ _ _ unused in cc
+    walk-named : namesOf (named w) ≡ true
+    unfolding opRight
+    walk-named = op-named (named w) (λ h. some (three-same _ _ _ _ _ _ right .0 ∙ h))
 
-    walk-agrees : namesOf (named w) ≡ true → w .phase .b < z .nodes → keyAt ns (w .phase .b) < soughtOf (named w)
-        → Agrees z ns es w (movedTo (w .phase) (nextAt ns (w .phase .b))) (replyWith 2 0 0)
-    unfolding numberOf
-    walk-agrees names in-table below =
-        agrees (Phase.Walk (w .phase .a) (w .phase .b)) (Phase.Walk (w .phase .b) (nextAt ns (w .phase .b)))
-        Answer.Working _ walk-read (walk-phase (w .phase) one) names refl (walk-words _) refl
-        (λ c who. ap (done ns es) (sym (walk-on _ _ _ _ _ _ _ _ _ _ in-table refl refl below refl refl)))
+    module _ (one : w .phase .phase ≡ 1) (unused : walkZeros (w .phase) ≡ true) where
+      walk-read : decode w ≡ Decoded.Record (sessionFrom w)
+      walk-read =
+          right-decodes w right (sym (front-all (w .phase) (omega arith) (omega arith)))
+          (sym (back-walks (w .phase) true (omega arith) (sym unused)))
+
+      walk-words : (n : ℕ) → phaseWords (Phase.Walk (w .phase .b) n) ≡ movedTo (w .phase) n
+      walk-words n = let zeros = three-same _ _ _ _ _ _ unused in cc
+
+      walk-agrees : w .phase .b < z .nodes → keyAt ns (w .phase .b) < w .op .first
+          → Agrees z ns es w (movedTo (w .phase) (nextAt ns (w .phase .b))) (replyWith 2 0 0)
+      unfolding numberOf
+      walk-agrees in-table below =
+          agrees (Phase.Walk (w .phase .a) (w .phase .b)) (Phase.Walk (w .phase .b) (nextAt ns (w .phase .b)))
+          Answer.Working _ walk-read (walk-phase (w .phase) one) walk-named refl (walk-words _) refl
+          (λ c who. ap (done ns es)
+          (sym (walk-on _ _ _ _ _ _ _ _ _ _ in-table refl (sym walk-sought) below refl refl)))
 
   -- ---- Follow and Hand
   module _ (four : w .op .kind ≡ 4) (unused : rangeZeros w ≡ true) where
@@ -141,12 +166,18 @@ module _ (z : Size) (ns es : List ℕ) (w : Words) where
   walk-held : (t : Bool) (x : Walked) → (t ≡ true → Walks x) → Walks (cond t x Walked.Long)
   walk-held t x f = cond-cases Walks t x Walked.Long f (λ _. tt)
 
-  pub walk-is-step : WalkTold z ns es w (walkShortly z ns w)
+  walk-told : (w .op .kind ≡ 0 → ⊥) → opRight (w .op) ≡ true
+      → WalkTold z ns es w (walkShortly z ns (w .op .first) (w .phase))
   unfolding walkShortly movesOn
+  walk-told some right =
+      walk-held _ _ (λ one. walk-held _ _ (λ unused. walk-held _ _ (λ known. walk-held _ _ (λ below.
+      walk-agrees some right (eqb-true _ _ one) unused (ltb-true _ _ known) (ltb-true _ _ below)))))
+
+  pub walk-is-step : seeksOf (w .op) ≡ true → WalkTold z ns es w (walkShortly z ns (w .op .first) (w .phase))
+  unfolding seeksOf
   walk-is-step =
-      walk-held _ _ (λ one. walk-held _ _ (λ unused. walk-held _ _ (λ right. walk-held _ _ (λ names.
-      walk-held _ _ (λ known. walk-held _ _ (λ below.
-      walk-agrees (eqb-true _ _ one) unused right names (ltb-true _ _ known) (ltb-true _ _ below)))))))
+      eqb-cases (λ b. b ≡ true → WalkTold z ns es w (walkShortly z ns (w .op .first) (w .phase))) (w .op .kind) 0 _ _
+      (λ _ no. let z : _≡_ {A = ℕ} 0 1 = cc in absurd (omega (arith, z))) walk-told
 
   abbrev Ranges : Ranged → Type 0
   Ranges = RangeTold z ns es w

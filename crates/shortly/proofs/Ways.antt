@@ -8,60 +8,59 @@ use borrow.Author.Tests.{lt-ltb, le-ltb, le-leb, lt-leb, eq-eqb, ne-eqb}
 use Rattle.bundle.specs.Bundle.{atOf}
 use Rattle.bundle.specs.declared.Read.{Read}
 use Rattle.nodes.specs.Nodes.{keyAt, valueAt, nextAt, newestAt}
-use Rattle.terms.specs.Terms.{soughtOf, namesOf}
 use Rattle.terms.specs.declared.Size.{Size}
-use Rattle.terms.specs.declared.Op.{Op}
+use Rattle.encoding.specs.declared.OpWords.{OpWords}
+use Rattle.encoding.specs.declared.PhaseWords.{PhaseWords}
 use Rattle.encoding.specs.declared.Words.{Words}
 use Rattle.encoding.specs.Encoding.{opRight}
 use Rattle.shortly.specs.declared.Walked.{Walked}
 use Rattle.shortly.specs.declared.Ranged.{Ranged}
-use Rattle.shortly.specs.Shortly.{movesOn, named, walkShortly, seesShortly, followShortly, handShortly}
-use Rattle.shortly.specs.Shortly.{walkZeros, rangeZeros, rangeShortly}
+use Rattle.shortly.specs.Shortly.{movesOn, seeksOf, walkZeros, walkShortly, seesShortly, followShortly}
+use Rattle.shortly.specs.Shortly.{handShortly, rangeZeros, rangeShortly}
 
 -- ---- Walk that moves on
-module _ (z : Size) (ns : List ℕ) (op : Op) (curr : ℕ) where
-  pub moves-past : z .nodes ≤ curr → Walked.Long ≡ movesOn z ns op curr
+module _ (z : Size) (ns : List ℕ) (sought curr : ℕ) where
+  pub moves-past : z .nodes ≤ curr → Walked.Long ≡ movesOn z ns sought curr
   unfolding movesOn
   moves-past past = rw (le-ltb _ _ past)
 
-  module _ (k s : ℕ) (in-table : curr < z .nodes) (key : k ≡ keyAt ns curr) (sought : s ≡ soughtOf op) where
-    pub moves-on : (n : ℕ) → k < s → n ≡ nextAt ns curr
-        → Walked.On n ≡ movesOn z ns op curr
+  module _ (k : ℕ) (in-table : curr < z .nodes) (key : k ≡ keyAt ns curr) where
+    pub moves-on : (n : ℕ) → k < sought → n ≡ nextAt ns curr → Walked.On n ≡ movesOn z ns sought curr
     unfolding movesOn
-    moves-on n below next = rw (lt-ltb _ _ in-table, ← key, ← sought, lt-ltb k s below, next)
+    moves-on n below next = rw (lt-ltb _ _ in-table, ← key, lt-ltb k sought below, next)
 
-    pub moves-not : s ≤ k → Walked.Long ≡ movesOn z ns op curr
+    pub moves-not : sought ≤ k → Walked.Long ≡ movesOn z ns sought curr
     unfolding movesOn
-    moves-not reached = rw (lt-ltb _ _ in-table, ← key, ← sought, le-ltb k s reached)
+    moves-not reached = rw (lt-ltb _ _ in-table, ← key, le-ltb k sought reached)
 
 pub ruleset moving = (moves-past, moves-on, moves-not)
 
-module _ (z : Size) (ns : List ℕ) (w : Words) where
-  pub walks-not : (w .phase .phase ≡ 1 → ⊥) → Walked.Long ≡ walkShortly z ns w
+module _ (o : OpWords) where
+  pub seeks-none : o .kind ≡ 0 → false ≡ seeksOf o
+  unfolding seeksOf
+  seeks-none h = rw (eq-eqb _ _ h)
+
+  pub seeks-right : (b : Bool) → (o .kind ≡ 0 → ⊥) → b ≡ opRight o → b ≡ seeksOf o
+  unfolding seeksOf
+  seeks-right b h e = rw (ne-eqb _ _ h, e)
+
+pub ruleset seeking = (seeks-none, seeks-right)
+
+module _ (z : Size) (ns : List ℕ) (sought : ℕ) (p : PhaseWords) where
+  pub walks-not : (p .phase ≡ 1 → ⊥) → Walked.Long ≡ walkShortly z ns sought p
   unfolding walkShortly
   walks-not h = rw (ne-eqb _ _ h)
 
-  module _ (p : Bool) (one : w .phase .phase ≡ 1) (unused : p ≡ walkZeros w)
-    where
-      pub walks-used : p ≡ false → Walked.Long ≡ walkShortly z ns w
-      unfolding walkShortly
-      walks-used h = rw (eq-eqb _ _ one, ← unused, h)
+  module _ (t : Bool) (one : p .phase ≡ 1) (unused : t ≡ walkZeros p) where
+    pub walks-used : t ≡ false → Walked.Long ≡ walkShortly z ns sought p
+    unfolding walkShortly
+    walks-used h = rw (eq-eqb _ _ one, ← unused, h)
 
-      module _ (q : Bool) (h : p ≡ true) (right : q ≡ opRight (w .op)) where
-        pub walks-wrong : q ≡ false → Walked.Long ≡ walkShortly z ns w
-        unfolding walkShortly
-        walks-wrong i = rw (eq-eqb _ _ one, ← unused, h, ← right, i)
+    pub walks : (x : Walked) → t ≡ true → x ≡ movesOn z ns sought (p .b) → x ≡ walkShortly z ns sought p
+    unfolding walkShortly
+    walks x h e = rw (eq-eqb _ _ one, ← unused, h, e)
 
-        module _ (r : Bool) (i : q ≡ true) (op : Op) (from : op ≡ named w) (names : r ≡ namesOf op) where
-          pub walks-idle : r ≡ false → Walked.Long ≡ walkShortly z ns w
-          unfolding walkShortly
-          walks-idle j = rw (eq-eqb _ _ one, ← unused, h, ← right, i, ← from, ← names, j)
-
-          pub walks : (x : Walked) → r ≡ true → x ≡ movesOn z ns op (w .phase .b) → x ≡ walkShortly z ns w
-          unfolding walkShortly
-          walks x j e = rw (eq-eqb _ _ one, ← unused, h, ← right, i, ← from, ← names, j, e)
-
-pub ruleset walking = (walks-not, walks-used, walks-wrong, walks-idle, walks)
+pub ruleset walking = (walks-not, walks-used, walks)
 
 -- ---- Follow
 module _ (z : Size) (ns : List ℕ) (low high to : ℕ) where

@@ -4,42 +4,37 @@
 -- Not here: that this is the step (proofs/Agrees.antt). Assumes nothing.
 use Prim.Native.Nat.{ℕ, _+_}
 use mathlib.Core.List.{List}
-use mathlib.Core.Bool.{Bool, cond}
+use mathlib.Core.Bool.{Bool, false, cond}
 use lib.Dec.{ltb, leb, eqb}
 use Rattle.bundle.specs.Bundle.{atOf}
 use Rattle.bundle.specs.declared.Read.{Read}
 use Rattle.nodes.specs.Nodes.{keyAt, valueAt, nextAt, newestAt}
-use Rattle.terms.specs.Terms.{soughtOf, namesOf}
 use Rattle.terms.specs.declared.Size.{Size}
-use Rattle.terms.specs.declared.Op.{Op}
+use Rattle.encoding.specs.declared.OpWords.{OpWords}
+use Rattle.encoding.specs.declared.PhaseWords.{PhaseWords}
 use Rattle.encoding.specs.declared.Words.{Words}
-use Rattle.encoding.specs.Encoding.{opFrom, sameThree, opRight}
+use Rattle.encoding.specs.Encoding.{sameThree, opRight}
 use Rattle.shortly.specs.declared.Walked.{Walked}
 use Rattle.shortly.specs.declared.Ranged.{Ranged}
 
--- ---- Walk that moves on
-unfoldable pub movesOn : Size → List ℕ → Op → ℕ → Walked
-movesOn z ns op curr =
+-- ---- Walk that moves on, for the key sought
+unfoldable pub movesOn : Size → List ℕ → ℕ → ℕ → Walked
+movesOn z ns sought curr =
     cond (ltb curr (z .nodes))
-    (cond (ltb (keyAt ns curr) (soughtOf op)) (Walked.On (nextAt ns curr)) Walked.Long)
+    (cond (ltb (keyAt ns curr) sought) (Walked.On (nextAt ns curr)) Walked.Long)
     Walked.Long
 
-abbrev pub named : Words → Op
-named w = opFrom (w .op .kind) (w .op .first) (w .op .second)
+-- an operation's words, and not None's: the first number is the key sought
+unfoldable pub seeksOf : OpWords → Bool
+seeksOf o = cond (eqb (o .kind) 0) false (opRight o)
 
 -- the words that Walk does not use are 0
-abbrev pub walkZeros : Words → Bool
-walkZeros w = sameThree (w .phase .c) (w .phase .d) (w .phase .e) 0 0 0
+abbrev pub walkZeros : PhaseWords → Bool
+walkZeros p = sameThree (p .c) (p .d) (p .e) 0 0 0
 
-unfoldable pub walkShortly : Size → List ℕ → Words → Walked
-walkShortly z ns w =
-    cond (eqb (w .phase .phase) 1)
-    (cond (walkZeros w)
-    (cond (opRight (w .op))
-    (cond (namesOf (named w)) (movesOn z ns (named w) (w .phase .b)) Walked.Long)
-    Walked.Long)
-    Walked.Long)
-    Walked.Long
+unfoldable pub walkShortly : Size → List ℕ → ℕ → PhaseWords → Walked
+walkShortly z ns sought p =
+    cond (eqb (p .phase) 1) (cond (walkZeros p) (movesOn z ns sought (p .b)) Walked.Long) Walked.Long
 
 -- ---- Follow of a range from low to high, which goes on or meets a key
 unfoldable pub seesShortly : Size → List ℕ → ℕ → ℕ → ℕ → Ranged

@@ -7,18 +7,22 @@ use mathlib.Core.List.{List}
 use mathlib.Core.Bool.{true}
 use Rattle.terms.specs.declared.Size.{Size}
 use Rattle.terms.specs.declared.Counters.{Counters}
+use Rattle.terms.specs.declared.Op.{Op}
 use Rattle.terms.specs.declared.Answer.{Answer}
 use Rattle.steps.specs.declared.Phase.{Phase}
 use Rattle.steps.specs.Steps.{done, busyOf, gives, actStep}
 use Rattle.encoding.specs.declared.PhaseWords.{PhaseWords}
 use Rattle.encoding.specs.declared.Words.{Words}
 use Rattle.encoding.specs.declared.Decoded.{Decoded}
-use Rattle.encoding.specs.Encoding.{phaseWith, phaseWords, phaseFrom, sessionFrom, decode}
+use Rattle.encoding.specs.Encoding.{phaseWith, phaseWords, opFrom, phaseFrom, sessionFrom, decode}
 use Rattle.packing.specs.declared.Reply.{Reply}
 use Rattle.packing.specs.Packing.{replyWith, replyOf, numberOf}
 use Rattle.shortly.specs.declared.Walked.{Walked}
 use Rattle.shortly.specs.declared.Ranged.{Ranged}
-use Rattle.shortly.specs.Shortly.{named}
+
+-- the operation that the words stand for
+abbrev pub named : Words → Op
+named w = opFrom (w .op .kind) (w .op .first) (w .op .second)
 
 -- ---- the words are a record's that is under way; its step leaves the tables, the counters and the operation, leads
 -- to the phase with the words p, and answers with the reply r, which is no refusal

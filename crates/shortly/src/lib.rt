@@ -9,6 +9,7 @@ ghost use mathlib.Core.Path.{_≡_};
 ghost use Rattle.terms.specs.Terms.{small};
 ghost use Rattle.shortly.specs.Shortly.{
   movesOn,
+  seeksOf,
   walkShortly,
   seesShortly,
   followShortly,
@@ -16,12 +17,13 @@ ghost use Rattle.shortly.specs.Shortly.{
   rangeShortly,
 };
 use bundle::Read;
+use encoding::OpWords;
+use encoding::PhaseWords;
 use encoding::Words;
 use nodes::KEY;
 use nodes::NEWEST;
 use nodes::NEXT;
 use nodes::VALUE;
-use terms::Op;
 
 // A walk moves on: curr is pred now, and this node is curr.
 pub enum Walked {
@@ -37,34 +39,36 @@ pub enum Ranged {
     Long,
 }
 
-fn moves_on(nodes: &[u32], op: Op, curr: u32) -> Walked
-    ensures { λ r. ⌜ r ≡ movesOn small (now (nodes .entry)) op curr ⌝ }
+fn moves_on(nodes: &[u32], sought: u32, curr: u32) -> Walked
+    ensures { λ r. ⌜ r ≡ movesOn small (now (nodes .entry)) sought curr ⌝ }
 {
     if 512 <= curr {
         return Walked::Long;
     }
-    if nodes::node(nodes, curr, KEY) < terms::sought(op) {
+    if nodes::node(nodes, curr, KEY) < sought {
         let next = nodes::node(nodes, curr, NEXT);
         return Walked::On(next);
     }
     Walked::Long
 }
 
-pub fn walk(nodes: &[u32], w: Words) -> Walked
-    ensures { λ r. ⌜ r ≡ walkShortly small (now (nodes .entry)) w ⌝ }
+// Are these the words of an operation? Its first number is the key sought.
+pub fn seeks(o: OpWords) -> bool
+    ensures { λ r. ⌜ r ≡ seeksOf o ⌝ }
 {
-    let o = w.op;
-    let p = w.phase;
+    if o.kind == 0 {
+        return false;
+    }
+    encoding::op_right(o)
+}
+
+// Of an operation that seeks this key.
+pub fn walk(nodes: &[u32], sought: u32, p: PhaseWords) -> Walked
+    ensures { λ r. ⌜ r ≡ walkShortly small (now (nodes .entry)) sought p ⌝ }
+{
     if p.phase == 1 {
         if encoding::all_zero(p.c, p.d, p.e) {
-            if encoding::op_right(o) {
-                let op = encoding::op_from(o.kind, o.first, o.second);
-                if terms::names(op) {
-                    return moves_on(nodes, op, p.b);
-                }
-                return Walked::Long;
-            }
-            return Walked::Long;
+            return moves_on(nodes, sought, p.b);
         }
         return Walked::Long;
     }

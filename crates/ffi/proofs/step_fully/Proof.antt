@@ -1,5 +1,4 @@
--- `ffi::step_fully` meets its contract: each way out is a law of proofs/Ways.antt. Assumes nothing.
-use Rattle.ffi.proofs.Ways.{step-silent}
+-- `ffi::step_fully` meets its contract: each way out is a law of proofs/Single.antt. Assumes nothing.
 use Rattle.ffi.proofs.Single.{one-of-many}
 use borrow.Author.Needs.{needs}
 use Rattle.ffi.proofs.step_fully.Statement.{statement}
@@ -15,5 +14,4 @@ step-fully-spec =
     (λ c. search needs)
     (λ c. search needs)
     (λ c. search needs)
-    (λ c. search one-of-many)
-    (λ c. search step-silent))
+    (λ c. search one-of-many))

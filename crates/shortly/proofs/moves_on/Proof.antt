@@ -11,6 +11,5 @@ moves-on-spec =
     (λ c. search moving)
     (λ c κs. search needs)
     (λ c κs. search needs)
-    (λ c κs. search needs)
     (λ c. search moving)
     (λ c. search moving))

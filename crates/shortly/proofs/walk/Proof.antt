@@ -10,11 +10,6 @@ walk-spec =
     (tie.spec
     (λ c κs. search needs)
     (λ c κs. search needs)
-    (λ c κs. search needs)
-    (λ c κs. search needs)
-    (λ c κs. search needs)
-    (λ c. search walking)
-    (λ c. search walking)
     (λ c. search walking)
     (λ c. search walking)
     (λ c. search walking))
