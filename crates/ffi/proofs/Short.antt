@@ -3,7 +3,7 @@
 -- In order: the call's checks; the step; the words; each way out of the functions that take a short way. Assumes
 -- nothing.
 use Prim.Native.Nat.{ℕ}
-use mathlib.Core.Path.{_≡_, ap}
+use mathlib.Core.Path.{_≡_, ap, _∙_}
 use mathlib.Core.List.{List}
 use mathlib.Core.Bool.{Bool, true}
 use lib.ListN.{length}
@@ -21,12 +21,15 @@ use Rattle.encoding.proofs.Trip.{and-first, encode-decode}
 use Rattle.packing.specs.declared.Reply.{Reply}
 use Rattle.packing.specs.Packing.{countersAt, opAt, phaseAt, recordAt, putPhase, replyOf, putReply}
 use Rattle.packing.proofs.Same.{counters-same, op-same, walk-put, lead-put, hand-put}
-use Rattle.exchange.specs.Exchange.{wordsRoom, left}
+use Rattle.exchange.specs.Exchange.{wordsRoom, Left, left}
 use Rattle.shortly.specs.declared.Walked.{Walked}
 use Rattle.shortly.specs.declared.Ranged.{Ranged}
 use Rattle.shortly.specs.Shortly.{seeksOf, walkShortly, rangeShortly}
 use Rattle.shortly.specs.Told.{named, Agrees, WalkTold, RangeTold}
 use Rattle.shortly.proofs.Agrees.{walk-is-step, range-is-step}
+use Rattle.advancing.specs.Advancing.{advanced, advanceOf}
+use Rattle.advancing.specs.Told.{AdvanceTold}
+use Rattle.advancing.proofs.Agrees.{advance-is-step, advance-none}
 use Rattle.calling.specs.Calling.{lengthsFit, kept}
 use Rattle.ffi.specs.Ffi.{admitted, walker, heard, went, stepRecord, stepSession, stepCall}
 
@@ -41,11 +44,11 @@ module _ (z : Size) (ns es ws out : List ℕ) (who : ℕ) (ready : admitted z ns
   tables-fit = and-first (fits z ns es) (eqb (length ws) wordsRoom) (ready .1)
 
   -- ---- the step, and the words
-  module _ (p : PhaseWords) (r : Reply) (g : Agrees z ns es (recordAt ws who) p r) where
+  module _ (ns′ : List ℕ) (p : PhaseWords) (r : Reply) (g : Agrees z ns es who (recordAt ws who) ns′ p r) where
     steps-to : stepOf z ns es (countersAt ws) who (sessionFrom (recordAt ws who))
-        ≡ done ns es (gives (countersAt ws) (named (recordAt ws who)) (g .phase) (g .answer))
+        ≡ done ns′ es (gives (countersAt ws) (named (recordAt ws who)) (g .phase) (g .answer))
     unfolding stepOf
-    steps-to = rw (tables-fit, lt-ltb who 16 (ready .2), g .busy) (g .acts (countersAt ws) who)
+    steps-to = rw (tables-fit, lt-ltb who 16 (ready .2), g .busy) (g .acts (countersAt ws))
 
     op-kept : opWords (named (recordAt ws who)) ≡ opAt ws who
     op-kept = ap (λ v. v .op) (encode-decode (recordAt ws who) (sessionFrom (recordAt ws who)) (g .read))
@@ -54,7 +57,7 @@ module _ (z : Size) (ns es ws out : List ℕ) (who : ℕ) (ready : admitted z ns
         ≡ putPhase ws who p
     keeps-rest = rw (counters-same ws, op-kept, op-same ws who, g .words)
 
-    short-steps : left ns es (putPhase ws who p) (putReply out r) 0 ≡ stepCall z ns es ws out who
+    short-steps : left ns′ es (putPhase ws who p) (putReply out r) 0 ≡ stepCall z ns es ws out who
     unfolding stepSession stepRecord
     short-steps = rw (call-goes, g .read, steps-to, keeps-rest, g .reply, g .number)
 
@@ -65,17 +68,17 @@ module _ (z : Size) (ns es ws out : List ℕ) (who : ℕ) (ready : admitted z ns
           → heard ws′ out′ n ≡ went ws out who 6 f 7 to r → left ns es ws′ out′ n ≡ stepCall z ns es ws out who
       leads-shortly f to goes says puts =
           let told : rangeShortly z ns es (recordAt ws who) ≡ Ranged.Leads f to = rw (← words, ← e, goes) in
-          let g : RangeTold z ns es (recordAt ws who) (Ranged.Leads f to)
-          = rw told at (range-is-step z ns es (recordAt ws who)) in
-          cc (short-steps _ _ g, lead-put ws who f to)
+          let g : RangeTold z ns es who (recordAt ws who) (Ranged.Leads f to)
+          = rw told at (range-is-step z ns es who (recordAt ws who)) in
+          cc (short-steps _ _ _ g, lead-put ws who f to)
 
       pub hands-shortly : (m k v : ℕ) → x ≡ Ranged.Hands m k v → r ≡ replyOf (Answer.Key k v)
           → heard ws′ out′ n ≡ went ws out who 6 11 9 m r → left ns es ws′ out′ n ≡ stepCall z ns es ws out who
       hands-shortly m k v goes says puts =
           let told : rangeShortly z ns es (recordAt ws who) ≡ Ranged.Hands m k v = rw (← words, ← e, goes) in
-          let g : RangeTold z ns es (recordAt ws who) (Ranged.Hands m k v)
-          = rw told at (range-is-step z ns es (recordAt ws who)) in
-          cc (short-steps _ _ g, hand-put ws who 11 m)
+          let g : RangeTold z ns es who (recordAt ws who) (Ranged.Hands m k v)
+          = rw told at (range-is-step z ns es who (recordAt ws who)) in
+          cc (short-steps _ _ _ g, hand-put ws who 11 m)
 
 pub seeks-first : (z : Size) (ns es ws out : List ℕ) (who : ℕ) (o : OpWords) (b : Bool) → admitted z ns es ws out who
     → o ≡ opAt ws who → b ≡ seeksOf o → b ≡ true → walker z ns es ws out who (o .first)
@@ -89,6 +92,21 @@ module _ (z : Size) (ns es ws out : List ℕ) (who sought : ℕ) (ready : walker
   walks-shortly p r x next n ws′ out′ phase e goes says puts =
       let told : walkShortly z ns (opAt ws who .first) (phaseAt ws who) ≡ Walked.On next
       = rw (← ready .2, ← phase, ← e, goes) in
-      let g : WalkTold z ns es (recordAt ws who) (Walked.On next)
-      = rw told at (walk-is-step z ns es (recordAt ws who) (ready .1)) in
-      cc (short-steps z ns es ws out who (ready .0) _ _ g, walk-put ws who (phaseAt ws who .b) next)
+      let g : WalkTold z ns es who (recordAt ws who) (Walked.On next)
+      = rw told at (walk-is-step z ns es who (recordAt ws who) (ready .1)) in
+      cc (short-steps z ns es ws out who (ready .0) _ _ _ g, walk-put ws who (phaseAt ws who .b) next)
+
+-- ---- an update's step that changes the phase alone
+module _ (z : Size) (ns es ws out : List ℕ) (who : ℕ) (o : OpWords) (p : PhaseWords) (ns′ : List ℕ) (f : ℕ)
+    (way : advanced ns′ f ≡ advanceOf z ns who o p) where
+  pub advances-fully : (t : Left) → f ≡ 0 → t ≡ stepCall z ns′ es ws out who → t ≡ stepCall z ns es ws out who
+  advances-fully t none e = e ∙ ap (λ m. stepCall z m es ws out who) (advance-none z ns who o p ns′ f way none)
+
+  pub advances-shortly : (r : Reply) (ws′ out′ : List ℕ) (n : ℕ) → admitted z ns es ws out who → o ≡ opAt ws who
+      → p ≡ phaseAt ws who → (f ≡ 0 → ⊥) → r ≡ replyOf Answer.Working
+      → heard ws′ out′ n ≡ went ws out who 6 f 7 (p .a) r → left ns′ es ws′ out′ n ≡ stepCall z ns es ws out who
+  advances-shortly r ws′ out′ n ready op phase some says puts =
+      let told : advanceOf z ns who (opAt ws who) (phaseAt ws who) ≡ advanced ns′ f = rw (← op, ← phase, ← way) in
+      let g : AdvanceTold z ns es who (recordAt ws who) (advanced ns′ f)
+      = rw told at (advance-is-step z ns es who (recordAt ws who)) in
+      cc (short-steps z ns es ws out who ready _ _ _ (g some), lead-put ws who f (phaseAt ws who .a))

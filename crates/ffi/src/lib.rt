@@ -151,7 +151,7 @@ pub extern "C" fn ravencrumb_steps(
     7
 }
 
-// The whole step: one of many. No key is looked for in the pair lent to it.
+// The whole call: one of many steps. No key is looked for in the pair lent to it.
 fn step_fully(
     nodes: &mut [u32],
     entries: &mut [u32],
@@ -159,13 +159,15 @@ fn step_fully(
     answer: &mut [u32],
     who: u32,
 ) -> u32
-    requires { ⌜ admitted small (now nodes) (now entries) (now words) (now answer) who ⌝ }
     ensures { λ r. ⌜ left (now (nodes .exit)) (now (entries .exit)) (now (words .exit)) (now (answer .exit)) r
         ≡ stepCall small (now (nodes .entry)) (now (entries .entry)) (now (words .entry)) (now (answer .entry))
         who ⌝ }
 {
-    let mut pair = [0; 2];
-    calling::many(nodes, entries, words, &mut pair, answer, who, 1)
+    if answer.len() == 3 {
+        let mut pair = [0; 2];
+        return calling::many(nodes, entries, words, &mut pair, answer, who, 1);
+    }
+    7
 }
 
 // Puts what a short way tells: the two words that change, and the answer, which is no refusal.
@@ -213,9 +215,7 @@ fn step_ranging(
     }
 }
 
-// A range's step, which compiles to a function of its own, so that a walk's step saves no registers for a range's loop.
-// What is admitted is tested again because compiled code does not know it there, and each use of a table would test it.
-fn step_range(
+fn step_updating(
     nodes: &mut [u32],
     entries: &mut [u32],
     words: &mut [u32],
@@ -227,10 +227,37 @@ fn step_range(
         ≡ stepCall small (now (nodes .entry)) (now (entries .entry)) (now (words .entry)) (now (answer .entry))
         who ⌝ }
 {
+    let o = packing::op_at(words, who);
+    let p = packing::phase_at(words, who);
+    let phase = advancing::advance(nodes, who, o, p);
+    if phase == 0 {
+        return step_fully(nodes, entries, words, answer, who);
+    }
+    let reply = packing::say(Answer::Working);
+    go(words, answer, who, PHASE, phase, A, p.a, reply)
+}
+
+// Every step but a walk's that moves on: it compiles to a function of its own, so that such a walk saves no registers
+// for the others. It makes the checks again because compiled code does not know of its caller's, and each use of a table
+// would make them.
+fn step_otherwise(
+    nodes: &mut [u32],
+    entries: &mut [u32],
+    words: &mut [u32],
+    answer: &mut [u32],
+    who: u32,
+) -> u32
+    ensures { λ r. ⌜ left (now (nodes .exit)) (now (entries .exit)) (now (words .exit)) (now (answer .exit)) r
+        ≡ stepCall small (now (nodes .entry)) (now (entries .entry)) (now (words .entry)) (now (answer .entry))
+        who ⌝ }
+{
     if answer.len() == 3 {
         if calling::right_lengths(nodes, entries, words) {
             if who < 16 {
-                return step_ranging(nodes, entries, words, answer, who);
+                if 11 <= packing::phase_number(words, who) {
+                    return step_ranging(nodes, entries, words, answer, who);
+                }
+                return step_updating(nodes, entries, words, answer, who);
             }
         }
     }
@@ -257,7 +284,7 @@ fn step_walking(
             let reply = packing::say(Answer::Working);
             go(words, answer, who, A, p.b, B, next, reply)
         }
-        Walked::Long => step_fully(nodes, entries, words, answer, who),
+        Walked::Long => step_otherwise(nodes, entries, words, answer, who),
     }
 }
 
@@ -277,10 +304,9 @@ fn step_seeking(
     if shortly::seeks(o) {
         return step_walking(nodes, entries, words, answer, who, o.first);
     }
-    step_range(nodes, entries, words, answer, who)
+    step_otherwise(nodes, entries, words, answer, who)
 }
 
-// A walk's way is tried for a walk alone, and a range's for Follow and Hand.
 fn step_shortly(
     nodes: &mut [u32],
     entries: &mut [u32],
@@ -293,14 +319,10 @@ fn step_shortly(
         ≡ stepCall small (now (nodes .entry)) (now (entries .entry)) (now (words .entry)) (now (answer .entry))
         who ⌝ }
 {
-    let phase = packing::phase_number(words, who);
-    if phase == 1 {
+    if packing::phase_number(words, who) == 1 {
         return step_seeking(nodes, entries, words, answer, who);
     }
-    if 11 <= phase {
-        return step_range(nodes, entries, words, answer, who);
-    }
-    step_fully(nodes, entries, words, answer, who)
+    step_otherwise(nodes, entries, words, answer, who)
 }
 
 fn refuse_session(words: &[u32], answer: &mut [u32]) -> u32

@@ -34,7 +34,7 @@ use Rattle.shortly.specs.Shortly.{followShortly, handShortly, rangeZeros
 use Rattle.shortly.specs.Told.{named, Agrees, movedTo, ledTo, handedOut, WalkTold, RangeTold}
 
 -- ---- the operation that the words say
-op-sought : (op : Op) → soughtOf op ≡ opWords op .first
+pub op-sought : (op : Op) → soughtOf op ≡ opWords op .first
 op-sought Op.None = refl
 op-sought (Op.Insert key value) = refl
 op-sought (Op.Remove key) = refl
@@ -50,7 +50,7 @@ op-named (Op.Range low high) h = refl
 
 -- ---- the phase that the words say
 module _ (w : PhaseWords) where
-  walk-phase : w .phase ≡ 1 → Phase.Walk (w .a) (w .b) ≡ phaseFrom w
+  pub walk-phase : w .phase ≡ 1 → Phase.Walk (w .a) (w .b) ≡ phaseFrom w
   walk-phase one = is-walking w _ (omega arith) (omega arith) (is-walk _ _ _ one)
 
   follow-phase : w .phase ≡ 11 → Phase.Follow (w .a) (w .b) (w .c) ≡ phaseFrom w
@@ -61,20 +61,21 @@ module _ (w : PhaseWords) where
       is-reading w _ (omega arith) (omega arith) (omega arith)
       (is-hand _ _ _ _ (omega arith) (omega arith) (omega arith))
 
-module _ (z : Size) (ns es : List ℕ) (w : Words) where
+module _ (z : Size) (ns es : List ℕ) (who : ℕ) (w : Words) where
   -- from the phase that the words say, the phase after it with its words, and the answer
-  agrees : (here phase : Phase) (a : Answer) (p : PhaseWords) → decode w ≡ Decoded.Record (sessionFrom w)
+  pub agrees : (ns′ : List ℕ) (here phase : Phase) (a : Answer) (p : PhaseWords)
+      → decode w ≡ Decoded.Record (sessionFrom w)
       → here ≡ phaseFrom (w .phase) → namesOf (named w) ≡ true → underWay here ≡ true → phaseWords phase ≡ p
       → numberOf (replyOf a) ≡ 0
-      → ((c : Counters) (who : ℕ) → actStep z ns es c who (named w) here ≡ done ns es (gives c (named w) phase a))
-      → Agrees z ns es w p (replyOf a)
-  agrees here phase a p read at names way words number acts =
+      → ((c : Counters) → actStep z ns es c who (named w) here ≡ done ns′ es (gives c (named w) phase a))
+      → Agrees z ns es who w ns′ p (replyOf a)
+  agrees ns′ here phase a p read at names way words number acts =
       record {
         phase = phase;
         answer = a;
         read = read;
         busy = rw (← at, names, way);
-        acts = λ c who. rw (← at) (acts c who);
+        acts = λ c. rw (← at) (acts c);
         words = words;
         reply = refl;
         number = number;
@@ -100,12 +101,12 @@ module _ (z : Size) (ns es : List ℕ) (w : Words) where
       walk-words n = let zeros = three-same _ _ _ _ _ _ unused in cc
 
       walk-agrees : w .phase .b < z .nodes → keyAt ns (w .phase .b) < w .op .first
-          → Agrees z ns es w (movedTo (w .phase) (nextAt ns (w .phase .b))) (replyWith 2 0 0)
+          → Agrees z ns es who w ns (movedTo (w .phase) (nextAt ns (w .phase .b))) (replyWith 2 0 0)
       unfolding numberOf
       walk-agrees in-table below =
-          agrees (Phase.Walk (w .phase .a) (w .phase .b)) (Phase.Walk (w .phase .b) (nextAt ns (w .phase .b)))
+          agrees ns (Phase.Walk (w .phase .a) (w .phase .b)) (Phase.Walk (w .phase .b) (nextAt ns (w .phase .b)))
           Answer.Working _ walk-read (walk-phase (w .phase) one) walk-named refl (walk-words _) refl
-          (λ c who. ap (done ns es)
+          (λ c. ap (done ns es)
           (sym (walk-on _ _ _ _ _ _ _ _ _ _ in-table refl (sym walk-sought) below refl refl)))
 
   -- ---- Follow and Hand
@@ -124,23 +125,23 @@ module _ (z : Size) (ns es : List ℕ) (w : Words) where
         leads-agrees : (then : Phase) (p : PhaseWords) → phaseWords then ≡ p
             → ((c : Counters)
             → works c (named w) then ≡ rangeSees z ns c (named w) (w .phase .a) (w .phase .b) (w .phase .c) to)
-            → Agrees z ns es w p (replyWith 2 0 0)
+            → Agrees z ns es who w ns p (replyWith 2 0 0)
         unfolding numberOf
         leads-agrees then p words sees =
-            agrees (Phase.Follow (w .phase .a) (w .phase .b) (w .phase .c)) then Answer.Working p
+            agrees ns (Phase.Follow (w .phase .a) (w .phase .b) (w .phase .c)) then Answer.Working p
             (range-read (omega arith) (omega arith)) (follow-phase (w .phase) follows) (rw (← range-named)) refl words
             refl
-            (λ c who. ap (done ns es)
+            (λ c. ap (done ns es)
             (sym (follow-leads _ _ _ _ _ _ _ _ _ _ _ in-table refl link to refl (sees c))))
 
-        on-agrees : keyAt ns to < w .op .first → Agrees z ns es w (ledTo (w .phase) 11 to) (replyWith 2 0 0)
+        on-agrees : keyAt ns to < w .op .first → Agrees z ns es who w ns (ledTo (w .phase) 11 to) (replyWith 2 0 0)
         on-agrees below =
             let zeros = three-same _ _ _ _ _ _ unused in
             leads-agrees (Phase.Follow to (w .phase .b) (w .phase .c)) _ (cc)
             (λ c. range-on _ _ _ _ _ _ _ _ _ _ _ known refl (ap soughtOf range-named) below refl)
 
         key-agrees : w .op .first ≤ keyAt ns to → keyAt ns to ≤ w .op .second
-            → Agrees z ns es w (ledTo (w .phase) 12 to) (replyWith 2 0 0)
+            → Agrees z ns es who w ns (ledTo (w .phase) 12 to) (replyWith 2 0 0)
         key-agrees reached within =
             let zeros = three-same _ _ _ _ _ _ unused in
             leads-agrees (Phase.Hand to (w .phase .b) (w .phase .c)) _ (cc)
@@ -148,39 +149,39 @@ module _ (z : Size) (ns es : List ℕ) (w : Words) where
             (ap highOf range-named) within refl)
 
     hand-agrees : w .phase .phase ≡ 12 → w .phase .a < z .nodes → w .phase .c < z .keys
-        → Agrees z ns es w (handedOut (w .phase) (w .phase .c + 1))
+        → Agrees z ns es who w ns (handedOut (w .phase) (w .phase .c + 1))
         (replyWith 4 (keyAt ns (w .phase .a)) (valueAt ns (w .phase .a)))
     unfolding numberOf
     hand-agrees h in-table few =
         let zeros = three-same _ _ _ _ _ _ unused in
-        agrees (Phase.Hand (w .phase .a) (w .phase .b) (w .phase .c))
+        agrees ns (Phase.Hand (w .phase .a) (w .phase .b) (w .phase .c))
         (Phase.Follow (w .phase .a) (w .phase .b) (w .phase .c + 1))
         (Answer.Key (keyAt ns (w .phase .a)) (valueAt ns (w .phase .a))) _ (range-read (omega arith) (omega arith))
         (hand-phase (w .phase) h) (rw (← range-named)) refl (cc) refl
-        (λ c who. ap (done ns es) (sym (hands _ _ _ _ _ _ _ _ _ _ in-table few refl refl refl)))
+        (λ c. ap (done ns es) (sym (hands _ _ _ _ _ _ _ _ _ _ in-table few refl refl refl)))
 
   -- ---- the two calls: every way out is Long, or agrees
   abbrev Walks : Walked → Type 0
-  Walks = WalkTold z ns es w
+  Walks = WalkTold z ns es who w
 
   walk-held : (t : Bool) (x : Walked) → (t ≡ true → Walks x) → Walks (cond t x Walked.Long)
   walk-held t x f = cond-cases Walks t x Walked.Long f (λ _. tt)
 
   walk-told : (w .op .kind ≡ 0 → ⊥) → opRight (w .op) ≡ true
-      → WalkTold z ns es w (walkShortly z ns (w .op .first) (w .phase))
+      → WalkTold z ns es who w (walkShortly z ns (w .op .first) (w .phase))
   unfolding walkShortly movesOn
   walk-told some right =
       walk-held _ _ (λ one. walk-held _ _ (λ unused. walk-held _ _ (λ known. walk-held _ _ (λ below.
       walk-agrees some right (eqb-true _ _ one) unused (ltb-true _ _ known) (ltb-true _ _ below)))))
 
-  pub walk-is-step : seeksOf (w .op) ≡ true → WalkTold z ns es w (walkShortly z ns (w .op .first) (w .phase))
+  pub walk-is-step : seeksOf (w .op) ≡ true → WalkTold z ns es who w (walkShortly z ns (w .op .first) (w .phase))
   unfolding seeksOf
   walk-is-step =
-      eqb-cases (λ b. b ≡ true → WalkTold z ns es w (walkShortly z ns (w .op .first) (w .phase))) (w .op .kind) 0 _ _
+      eqb-cases (λ b. b ≡ true → WalkTold z ns es who w (walkShortly z ns (w .op .first) (w .phase))) (w .op .kind) 0 _ _
       (λ _ no. let z : _≡_ {A = ℕ} 0 1 = cc in absurd (omega (arith, z))) walk-told
 
   abbrev Ranges : Ranged → Type 0
-  Ranges = RangeTold z ns es w
+  Ranges = RangeTold z ns es who w
 
   range-held : (t : Bool) (x : Ranged) → (t ≡ true → Ranges x) → Ranges (cond t x Ranged.Long)
   range-held t x f = cond-cases Ranges t x Ranged.Long f (λ _. tt)
@@ -215,7 +216,7 @@ module _ (z : Size) (ns es : List ℕ) (w : Words) where
         range-held _ _ (λ in-table. range-held _ _ (λ few.
         hand-agrees four unused hands (ltb-true _ _ in-table) (ltb-true _ _ few)))
 
-  pub range-is-step : RangeTold z ns es w (rangeShortly z ns es w)
+  pub range-is-step : RangeTold z ns es who w (rangeShortly z ns es w)
   unfolding rangeShortly
   range-is-step =
       range-held _ _ (λ four. range-held _ _ (λ unused.

@@ -24,15 +24,16 @@ use Rattle.shortly.specs.declared.Ranged.{Ranged}
 abbrev pub named : Words → Op
 named w = opFrom (w .op .kind) (w .op .first) (w .op .second)
 
--- ---- the words are a record's that is under way; its step leaves the tables, the counters and the operation, leads
--- to the phase with the words p, and answers with the reply r, which is no refusal
-pub record Agrees (z : Size) (ns es : List ℕ) (w : Words) (p : PhaseWords) (r : Reply) : Type 0 where
+-- ---- the words are a record's that is under way; its step leaves the entries, the counters and the operation, makes
+-- the nodes ns′, leads to the phase with the words p, and answers with the reply r, which is no refusal
+pub record Agrees (z : Size) (ns es : List ℕ) (who : ℕ) (w : Words) (ns′ : List ℕ) (p : PhaseWords) (r : Reply)
+    : Type 0 where
   pub phase : Phase
   pub answer : Answer
   pub read : decode w ≡ Decoded.Record (sessionFrom w)
   pub busy : busyOf (sessionFrom w) ≡ true
-  pub acts : (c : Counters) (who : ℕ)
-      → actStep z ns es c who (named w) (phaseFrom (w .phase)) ≡ done ns es (gives c (named w) phase answer)
+  pub acts : (c : Counters)
+      → actStep z ns es c who (named w) (phaseFrom (w .phase)) ≡ done ns′ es (gives c (named w) phase answer)
   pub words : phaseWords phase ≡ p
   pub reply : replyOf answer ≡ r
   pub number : numberOf r ≡ 0
@@ -48,11 +49,11 @@ abbrev pub handedOut : PhaseWords → ℕ → PhaseWords
 handedOut p n = phaseWith 11 (p .a) (p .b) n (p .d) (p .e)
 
 -- ---- what is told is the step; Long tells nothing
-abbrev pub WalkTold : Size → List ℕ → List ℕ → Words → Walked → Type 0
-WalkTold z ns es w (Walked.On n) = Agrees z ns es w (movedTo (w .phase) n) (replyWith 2 0 0)
-WalkTold z ns es w Walked.Long = Unit {0}
+abbrev pub WalkTold : Size → List ℕ → List ℕ → ℕ → Words → Walked → Type 0
+WalkTold z ns es who w (Walked.On n) = Agrees z ns es who w ns (movedTo (w .phase) n) (replyWith 2 0 0)
+WalkTold z ns es who w Walked.Long = Unit {0}
 
-abbrev pub RangeTold : Size → List ℕ → List ℕ → Words → Ranged → Type 0
-RangeTold z ns es w (Ranged.Leads f to) = Agrees z ns es w (ledTo (w .phase) f to) (replyWith 2 0 0)
-RangeTold z ns es w (Ranged.Hands n k v) = Agrees z ns es w (handedOut (w .phase) n) (replyWith 4 k v)
-RangeTold z ns es w Ranged.Long = Unit {0}
+abbrev pub RangeTold : Size → List ℕ → List ℕ → ℕ → Words → Ranged → Type 0
+RangeTold z ns es who w (Ranged.Leads f to) = Agrees z ns es who w ns (ledTo (w .phase) f to) (replyWith 2 0 0)
+RangeTold z ns es who w (Ranged.Hands n k v) = Agrees z ns es who w ns (handedOut (w .phase) n) (replyWith 4 k v)
+RangeTold z ns es who w Ranged.Long = Unit {0}

@@ -1,4 +1,5 @@
--- `ffi::step_fully` meets its contract: each way out is a law of proofs/Single.antt. Assumes nothing.
+-- `ffi::step_fully` meets its contract: each way out is a law of proofs/Ways.antt. Assumes nothing.
+use Rattle.ffi.proofs.Ways.{step-silent}
 use Rattle.ffi.proofs.Single.{one-of-many}
 use borrow.Author.Needs.{needs}
 use Rattle.ffi.proofs.step_fully.Statement.{statement}
@@ -14,4 +15,5 @@ step-fully-spec =
     (λ c. search needs)
     (λ c. search needs)
     (λ c. search needs)
-    (λ c. search one-of-many))
+    (λ c. search one-of-many)
+    (λ c. search step-silent))
