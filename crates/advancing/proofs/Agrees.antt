@@ -40,12 +40,12 @@ use Rattle.advancing.specs.Advancing.{advanceOf}
 use Rattle.advancing.specs.Told.{AdvanceTold}
 
 -- ---- an update's words, and the operation that they stand for
-record Update (w : Words) : Type 0 where
-  right : opRight (w .op) ≡ true
-  names : namesOf (named w) ≡ true
-  sought : soughtOf (named w) ≡ w .op .first
-  removes : removing (w .op) ≡ removesOf (named w)
-  arrives : (pred curr : ℕ) → arrivedOf (named w) pred curr ≡ Phase.Lock pred curr
+pub record Update (w : Words) : Type 0 where
+  pub right : opRight (w .op) ≡ true
+  pub names : namesOf (named w) ≡ true
+  pub sought : soughtOf (named w) ≡ w .op .first
+  pub removes : removing (w .op) ≡ removesOf (named w)
+  pub arrives : (pred curr : ℕ) → arrivedOf (named w) pred curr ≡ Phase.Lock pred curr
 
 module _ (w : Words) where
   insert-words : w .op .kind ≡ 1 → Update w
@@ -68,7 +68,7 @@ module _ (w : Words) where
         arrives = λ pred curr. sym (ap (λ op. arrivedOf op pred curr) e);
       }
 
-  update-words : updatesOf (w .op) ≡ true → Update w
+  pub update-words : updatesOf (w .op) ≡ true → Update w
   unfolding updatesOf
   update-words =
       eqb-cases Right (w .op .kind) 1 _ _ (λ one _. insert-words one) (λ _.

@@ -28,7 +28,7 @@ use nodes::LOCK;
 use nodes::NEXT;
 use nodes::REMOVED;
 
-fn updates(o: OpWords) -> bool
+pub fn updates(o: OpWords) -> bool
     ensures { λ r. ⌜ r ≡ updatesOf o ⌝ }
 {
     if o.kind == 1 {

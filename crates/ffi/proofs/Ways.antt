@@ -11,15 +11,19 @@ use Rattle.terms.specs.Terms.{small, refusalNumber}
 use Rattle.terms.specs.declared.Size.{Size}
 use Rattle.terms.specs.declared.Counters.{Counters}
 use Rattle.terms.specs.declared.Op.{Op}
+use Rattle.terms.specs.declared.Answer.{Answer}
 use Rattle.terms.specs.declared.Refusal.{Refusal}
 use Rattle.steps.specs.declared.Session.{Session}
+use Rattle.steps.specs.Steps.{idle}
+use Rattle.closing.specs.Told.{finishAnswer}
 use Rattle.register.specs.declared.Started.{Started}
 use Rattle.register.specs.declared.Opened.{Opened}
 use Rattle.register.specs.Register.{opened, freshOf, startOf}
 use Rattle.encoding.specs.declared.Words.{Words}
 use Rattle.encoding.specs.declared.Decoded.{Decoded}
 use Rattle.encoding.specs.Encoding.{encode, opFrom, decode}
-use Rattle.packing.specs.Packing.{recordAt, putRecord, freshWords, refusedBy}
+use Rattle.packing.specs.declared.Reply.{Reply}
+use Rattle.packing.specs.Packing.{countersAt, putCounters, recordAt, putRecord, freshWords, refusedBy, replyOf}
 use Rattle.packing.specs.Packing.{putReply}
 use Rattle.exchange.specs.Exchange.{Told, told, left, stays}
 use Rattle.calling.specs.Calling.{lengthsFit, refusal, answered}
@@ -27,7 +31,7 @@ use Rattle.ffi.specs.Ffi.{cleared, freshCall, Heard, heard}
 use Rattle.calling.specs.Calling.{Strode, strode, tally, manyCall}
 use Rattle.calling.proofs.Ways.{fit-words, fit-entries-not, fit-nodes-not}
 use Rattle.ffi.specs.Ffi.{stepsCall}
-use Rattle.ffi.specs.Ffi.{startRecord, startSession, startCall, stepCall}
+use Rattle.ffi.specs.Ffi.{startRecord, startSession, startCall, settled, ended, stepCall}
 
 -- ---- fresh
 module _ (z : Size) (ns es ws : List ℕ) where
@@ -146,6 +150,15 @@ module _ (ws out : List ℕ) (t : Told) where
   unknown-words h e = rw (ne-eqb _ _ h, e)
 
 pub ruleset unknown = (unknown-session, unknown-words)
+
+pub settles : (ws a b out out′ : List ℕ) (who : ℕ) (c : Counters) (w : Words) (r : Reply) → a ≡ putCounters ws c
+    → b ≡ putRecord a who w → out′ ≡ putReply out r → heard b out′ 0 ≡ settled ws out who c w r
+settles ws a b out out′ who c w r h i j = rw (i, h, j)
+
+pub ends-update : (ws out : List ℕ) (who : ℕ) (removes : Bool) (n : ℕ) (c : Counters) (w : Words) (a : Answer)
+    (r : Reply) (t : Heard) → c ≡ countersAt ws → w ≡ encode idle → a ≡ finishAnswer removes n → r ≡ replyOf a
+    → t ≡ settled ws out who c w r → t ≡ ended ws out who removes n
+ends-update ws out who removes n c w a r t h i j k e = rw (e, h, i, k, j)
 
 -- ---- several steps
 module _ (z : Size) (ns es ws ps out : List ℕ) (who limit : ℕ) where

@@ -8,23 +8,26 @@
 use Prim.Native.Nat.{ℕ, _<_}
 use mathlib.Core.Path.{_≡_}
 use mathlib.Core.List.{List}
-use mathlib.Core.Bool.{true, cond}
+use mathlib.Core.Bool.{Bool, true, cond}
 use lib.ListN.{length}
 use lib.Dec.{ltb, eqb}
 use Rattle.terms.specs.Terms.{refusalNumber}
 use Rattle.terms.specs.declared.Size.{Size}
+use Rattle.terms.specs.declared.Counters.{Counters}
 use Rattle.terms.specs.declared.Op.{Op}
 use Rattle.steps.specs.declared.Session.{Session}
-use Rattle.steps.specs.Steps.{Done, done}
+use Rattle.steps.specs.Steps.{idle, Done, done}
 use Rattle.register.specs.declared.Started.{Started}
 use Rattle.register.specs.declared.Opened.{Opened}
 use Rattle.register.specs.Register.{Fresh, opened, freshOf, startOf, stepOf}
+use Rattle.encoding.specs.declared.Words.{Words}
 use Rattle.encoding.specs.Encoding.{encode, opFrom, decode}
 use Rattle.packing.specs.declared.Reply.{Reply}
-use Rattle.packing.specs.Packing.{countersAt, opAt, recordAt, putRecord, freshWords, refusedBy, replyOf}
+use Rattle.packing.specs.Packing.{countersAt, putCounters, opAt, recordAt, putRecord, freshWords, refusedBy, replyOf}
 use Rattle.exchange.specs.Exchange.{wordsRoom, Left, left, stays}
 use Rattle.packing.specs.Packing.{putTwo, numberOf, putReply}
 use Rattle.shortly.specs.Shortly.{seeksOf}
+use Rattle.closing.specs.Told.{finishAnswer}
 use Rattle.calling.specs.Calling.{lengthsFit, onDecoded, kept, Strode, strode, standsStill, stepsSession}
 
 -- what start, step and steps check first, in this order: an answer of another length stays as it is; 7; 1
@@ -80,6 +83,15 @@ startCall z ns es ws out who kind first second =
 -- two other words of one session's record, another answer, and no refusal
 abbrev pub went : List ℕ → List ℕ → ℕ → ℕ → ℕ → ℕ → ℕ → Reply → Heard
 went ws out who j x k y r = heard (putTwo ws who j x k y) (putReply out r) 0
+
+-- other counters, another record of one session and another answer, and no refusal
+abbrev pub settled : List ℕ → List ℕ → ℕ → Counters → Words → Reply → Heard
+settled ws out who c w r = heard (putRecord (putCounters ws c) who w) (putReply out r) 0
+
+-- an update ends: the session is idle
+abbrev pub ended : List ℕ → List ℕ → ℕ → Bool → ℕ → Heard
+ended ws out who removes number =
+    settled ws out who (countersAt ws) (encode idle) (replyOf (finishAnswer removes number))
 
 -- ---- step: both tables, the words, the answer and the number returned
 abbrev pub afterStep : List ℕ → List ℕ → ℕ → Done → Left

@@ -11,6 +11,8 @@ ghost use mathlib.Core.Bool.{cond};
 ghost use lib.ListN.{length};
 ghost use lib.Dec.{eqb};
 ghost use Rattle.terms.specs.Terms.{small};
+ghost use Rattle.steps.specs.Steps.{idle};
+ghost use Rattle.encoding.specs.Encoding.{encode};
 ghost use Rattle.calling.specs.Calling.{refusal, strode};
 ghost use Rattle.ffi.specs.Ffi.{
   cleared,
@@ -20,6 +22,8 @@ ghost use Rattle.ffi.specs.Ffi.{
   startSession,
   startCall,
   went,
+  settled,
+  ended,
   admitted,
   walker,
   stepCall,
@@ -28,6 +32,9 @@ ghost use Rattle.ffi.specs.Ffi.{
 ghost use Rattle.listing.specs.Listing.{keyRoom};
 ghost use Rattle.exchange.specs.Exchange.{told, left, wordsRoom, wrote, writeCall, readCall};
 use encoding::Decoded;
+use encoding::OpWords;
+use encoding::PhaseWords;
+use encoding::Words;
 use packing::A;
 use packing::B;
 use packing::C;
@@ -38,6 +45,7 @@ use shortly::Ranged;
 use shortly::Walked;
 use steps::Session;
 use terms::Answer;
+use terms::Counters;
 use terms::Op;
 
 #[no_mangle]
@@ -215,6 +223,104 @@ fn step_ranging(
     }
 }
 
+// Puts other counters, another record and the answer, which is no refusal.
+fn settle(words: &mut [u32], answer: &mut [u32], who: u32, c: Counters, w: Words, reply: Reply) -> u32
+    ensures { λ r. ⌜ heard (now (words .exit)) (now (answer .exit)) r
+        ≡ settled (now (words .entry)) (now (answer .entry)) who c w reply ⌝ }
+{
+    packing::put_counters(words, c);
+    packing::put_record(words, who, w);
+    packing::put_reply(answer, reply);
+    0
+}
+
+fn step_numbering(
+    nodes: &mut [u32],
+    entries: &mut [u32],
+    words: &mut [u32],
+    answer: &mut [u32],
+    who: u32,
+) -> u32
+    requires { ⌜ admitted small (now nodes) (now entries) (now words) (now answer) who ⌝ }
+    ensures { λ r. ⌜ left (now (nodes .exit)) (now (entries .exit)) (now (words .exit)) (now (answer .exit)) r
+        ≡ stepCall small (now (nodes .entry)) (now (entries .entry)) (now (words .entry)) (now (answer .entry))
+        who ⌝ }
+{
+    let c = packing::counters_at(words);
+    let o = packing::op_at(words, who);
+    let p = packing::phase_at(words, who);
+    let n = closing::number(c.stamp, o, p);
+    if n == 0 {
+        return step_fully(nodes, entries, words, answer, who);
+    }
+    let raised = Counters {
+        nodes: c.nodes,
+        entries: c.entries,
+        stamp: n,
+    };
+    let phase = PhaseWords {
+        phase: 7,
+        a: p.a,
+        b: p.b,
+        c: p.c,
+        d: p.d,
+        e: n,
+    };
+    let w = Words { op: o, phase };
+    let reply = packing::say(Answer::Working);
+    settle(words, answer, who, raised, w, reply)
+}
+
+fn idle_words() -> Words
+    ensures { λ r. ⌜ r ≡ encode idle ⌝ }
+{
+    let op = OpWords {
+        kind: 0,
+        first: 0,
+        second: 0,
+    };
+    let phase = PhaseWords {
+        phase: 0,
+        a: 0,
+        b: 0,
+        c: 0,
+        d: 0,
+        e: 0,
+    };
+    Words { op, phase }
+}
+
+fn end_update(words: &mut [u32], answer: &mut [u32], who: u32, removes: bool, number: u32) -> u32
+    ensures { λ r. ⌜ heard (now (words .exit)) (now (answer .exit)) r
+        ≡ ended (now (words .entry)) (now (answer .entry)) who removes number ⌝ }
+{
+    let c = packing::counters_at(words);
+    let w = idle_words();
+    let given = closing::answer(removes, number);
+    let reply = packing::say(given);
+    settle(words, answer, who, c, w, reply)
+}
+
+fn step_finishing(
+    nodes: &mut [u32],
+    entries: &mut [u32],
+    words: &mut [u32],
+    answer: &mut [u32],
+    who: u32,
+) -> u32
+    requires { ⌜ admitted small (now nodes) (now entries) (now words) (now answer) who ⌝ }
+    ensures { λ r. ⌜ left (now (nodes .exit)) (now (entries .exit)) (now (words .exit)) (now (answer .exit)) r
+        ≡ stepCall small (now (nodes .entry)) (now (entries .entry)) (now (words .entry)) (now (answer .entry))
+        who ⌝ }
+{
+    let o = packing::op_at(words, who);
+    let p = packing::phase_at(words, who);
+    if closing::finish(nodes, entries, o, p) {
+        return end_update(words, answer, who, o.kind == 2, p.e);
+    }
+    step_fully(nodes, entries, words, answer, who)
+}
+
 fn step_updating(
     nodes: &mut [u32],
     entries: &mut [u32],
@@ -237,6 +343,31 @@ fn step_updating(
     go(words, answer, who, PHASE, phase, A, p.a, reply)
 }
 
+fn step_by_phase(
+    nodes: &mut [u32],
+    entries: &mut [u32],
+    words: &mut [u32],
+    answer: &mut [u32],
+    who: u32,
+) -> u32
+    requires { ⌜ admitted small (now nodes) (now entries) (now words) (now answer) who ⌝ }
+    ensures { λ r. ⌜ left (now (nodes .exit)) (now (entries .exit)) (now (words .exit)) (now (answer .exit)) r
+        ≡ stepCall small (now (nodes .entry)) (now (entries .entry)) (now (words .entry)) (now (answer .entry))
+        who ⌝ }
+{
+    let phase = packing::phase_number(words, who);
+    if 11 <= phase {
+        return step_ranging(nodes, entries, words, answer, who);
+    }
+    if phase == 6 {
+        return step_numbering(nodes, entries, words, answer, who);
+    }
+    if phase == 8 {
+        return step_finishing(nodes, entries, words, answer, who);
+    }
+    step_updating(nodes, entries, words, answer, who)
+}
+
 // Every step but a walk's that moves on: it compiles to a function of its own, so that such a walk saves no registers
 // for the others. It makes the checks again because compiled code does not know of its caller's, and each use of a table
 // would make them.
@@ -254,10 +385,7 @@ fn step_otherwise(
     if answer.len() == 3 {
         if calling::right_lengths(nodes, entries, words) {
             if who < 16 {
-                if 11 <= packing::phase_number(words, who) {
-                    return step_ranging(nodes, entries, words, answer, who);
-                }
-                return step_updating(nodes, entries, words, answer, who);
+                return step_by_phase(nodes, entries, words, answer, who);
             }
         }
     }

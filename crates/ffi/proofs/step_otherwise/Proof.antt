@@ -9,13 +9,6 @@ step-otherwise-spec =
     tie.close
     (tie.spec
     (λ c κs. search needs)
-    (λ c κs. search needs)
-    (λ c κs. (search needs, (cc), search needs))
-    (λ c. search needs)
-    (λ c. search needs)
-    (λ c. search needs)
-    (λ c. search needs)
-    (λ c. search needs)
     (λ c κs. (search needs, (cc), search needs))
     (λ c. search needs)
     (λ c. search needs)
