@@ -1,9 +1,12 @@
 -- Each way out of the short ways' functions, over plain values: what the code read and tested, and what is then told.
 -- In order: Walk that moves on; Follow; Hand; a range's two. Assumes nothing.
 use Prim.Native.Nat.{ℕ, _+_, _≤_, _<_}
-use mathlib.Core.Path.{_≡_}
+use mathlib.Core.Path.{_≡_, sym, _∙_}
 use mathlib.Core.List.{List}
 use mathlib.Core.Bool.{Bool, true, false}
+use lib.Dec.{eqb, leb}
+use native.Mathlib.Decide.{decLe}
+use native.Mathlib.Omega.{arith}
 use borrow.Author.Tests.{lt-ltb, le-ltb, le-leb, lt-leb, eq-eqb, ne-eqb}
 use Rattle.bundle.specs.Bundle.{atOf}
 use Rattle.bundle.specs.declared.Read.{Read}
@@ -13,6 +16,7 @@ use Rattle.encoding.specs.declared.OpWords.{OpWords}
 use Rattle.encoding.specs.declared.PhaseWords.{PhaseWords}
 use Rattle.encoding.specs.declared.Words.{Words}
 use Rattle.encoding.specs.Encoding.{opRight}
+use Rattle.encoding.proofs.Ways.{right-insert, right-range, right-key, right-not}
 use Rattle.shortly.specs.declared.Walked.{Walked}
 use Rattle.shortly.specs.declared.Ranged.{Ranged}
 use Rattle.shortly.specs.Shortly.{movesOn, seeksOf, walkZeros, walkShortly, seesShortly, followShortly}
@@ -40,11 +44,43 @@ module _ (o : OpWords) where
   unfolding seeksOf
   seeks-none h = rw (eq-eqb _ _ h)
 
-  pub seeks-right : (b : Bool) → (o .kind ≡ 0 → ⊥) → b ≡ opRight o → b ≡ seeksOf o
+  seeks-right : (o .kind ≡ 0 → ⊥) → opRight o ≡ seeksOf o
   unfolding seeksOf
-  seeks-right b h e = rw (ne-eqb _ _ h, e)
+  seeks-right h = rw (ne-eqb _ _ h)
 
-pub ruleset seeking = (seeks-none, seeks-right)
+  module _ (unused : o .second ≡ 0) (some : o .kind ≡ 0 → ⊥) where
+    seeks-known : o .kind ≤ 4 → true ≡ opRight o
+    seeks-known few = elim (decLe (o .kind) 1) [
+      | yes one ↦ right-insert o (omega (arith, some))
+      | no past ↦ elim (decLe (o .kind) 3) [
+        | yes key ↦ sym (eq-eqb _ _ unused) ∙ right-key o some (omega arith) key
+        | no last ↦ right-range o (omega arith)
+      ]
+    ]
+
+    pub seeks-kind : leb (o .kind) 4 ≡ seeksOf o
+    seeks-kind = elim (decLe (o .kind) 4) [
+      | yes few ↦ le-leb (o .kind) 4 few ∙ seeks-known few ∙ seeks-right some
+      | no many ↦ lt-leb (o .kind) 4 (omega arith) ∙ right-not o (omega arith) (omega arith) ∙ seeks-right some
+    ]
+
+  pub seeks-insert : o .kind ≡ 1 → true ≡ seeksOf o
+  seeks-insert one = right-insert o one ∙ seeks-right (omega arith)
+
+  pub seeks-range : (o .second ≡ 0 → ⊥) → (o .kind ≡ 1 → ⊥) → eqb (o .kind) 4 ≡ seeksOf o
+  seeks-range used other = elim (decLe (o .kind) 0) [
+    | yes none ↦ ne-eqb (o .kind) 4 (omega arith) ∙ seeks-none (omega arith)
+    | no some ↦ elim (decLe (o .kind) 3) [
+      | yes key ↦ ne-eqb (o .kind) 4 (omega arith) ∙ sym (ne-eqb _ _ used) ∙ right-key o (omega arith) other key
+        ∙ seeks-right (omega arith)
+      | no last ↦ elim (decLe (o .kind) 4) [
+        | yes four ↦ eq-eqb (o .kind) 4 (omega arith) ∙ right-range o (omega arith) ∙ seeks-right (omega arith)
+        | no many ↦ ne-eqb (o .kind) 4 (omega arith) ∙ right-not o (omega arith) (omega arith) ∙ seeks-right (omega arith)
+      ]
+    ]
+  ]
+
+pub ruleset seeking = (seeks-none, seeks-kind, seeks-insert, seeks-range)
 
 module _ (z : Size) (ns : List ℕ) (sought : ℕ) (p : PhaseWords) where
   pub walks-not : (p .phase ≡ 1 → ⊥) → Walked.Long ≡ walkShortly z ns sought p

@@ -1,6 +1,5 @@
 -- `shortly::seeks` meets its contract: each way out is a law of proofs/Ways.antt. Assumes nothing.
 use Rattle.shortly.proofs.Ways.{seeking}
-use borrow.Author.Needs.{needs}
 use Rattle.shortly.proofs.seeks.Statement.{statement}
 use Rattle.shortly.proofs.seeks.Tie as tie
 
@@ -9,5 +8,6 @@ seeks-spec =
     tie.close
     (tie.spec
     (λ c. search seeking)
-    (λ c κs. search needs)
+    (λ c. search seeking)
+    (λ c. search seeking)
     (λ c. search seeking))
