@@ -54,14 +54,13 @@ module _ (z : Size) (ns es : List ℕ) (c : Counters) (who : ℕ) (w : Words) wh
   number-acts : w .phase .phase ≡ 6 → eqb (w .phase .e) 0 ≡ true → Update w → c .stamp < z .updates
       → Numbers (c .stamp + 1)
   unfolding Numbers
-  number-acts six unused u few _ =
-      (
-        refl,
-        acts-from u (Phase.Number (w .phase .a) (w .phase .b) (w .phase .c) (w .phase .d)) ns es (numbered c w)
+  number-acts six unused u few _ = (
+    refl,
+    acts-from u (Phase.Number (w .phase .a) (w .phase .b) (w .phase .c) (w .phase .d)) ns es (numbered c w)
         (is-updating (w .phase) _ (omega arith) (omega arith) (omega arith) (is-number _ _ _ _ _ _ six)) refl
         (omega arith) (omega arith) (sym (back-number (w .phase) six) ∙ unused)
         (rw (← numbers z c (named w) (w .phase .a) (w .phase .b) (w .phase .c) (w .phase .d) (numbered c w) few refl)),
-      )
+  )
 
   number-told : Numbers (numberAhead z (c .stamp) (w .op) (w .phase))
   unfolding numberAhead

@@ -20,8 +20,10 @@ use Rattle.reached.specs.Reached.{on as reached-on}
 use Rattle.encoding.specs.Encoding.{opFrom}
 use Rattle.exchange.specs.Exchange.{left, readCall}
 use Rattle.calling.specs.Calling.{lengthsFit, strode}
-use Rattle.ffi.specs.Ffi.{cleared, freshCall, heard, startCall, stepCall, stepsCall}
-use Rattle.ffi.proofs.Ways.{start-silent, step-silent, strides-silent, strides-lengths, strides-session}
+use Rattle.stepping.specs.Stepping.{heard, stepCall}
+use Rattle.ffi.specs.Ffi.{cleared, freshCall, startCall, stepsCall}
+use Rattle.stepping.proofs.Ways.{step-silent}
+use Rattle.ffi.proofs.Ways.{start-silent, strides-silent, strides-lengths, strides-session}
 use Rattle.driven.specs.Driven.{inARow, Did, Strides}
 use Rattle.driven.specs.Always.{HoldsReached, AreWords, fresh, start, step, steps, read, StaysReached}
 use Rattle.driven.specs.Always.{freshly, listed, on, LentReached, Unchanged}

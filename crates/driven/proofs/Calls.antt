@@ -30,8 +30,9 @@ use Rattle.packing.specs.Packing.{replyOf, numberOf, putReply, putRecord, fresh
 use Rattle.packing.proofs.Same.{counters-same}
 use Rattle.exchange.specs.Exchange.{left}
 use Rattle.calling.specs.Calling.{kept}
-use Rattle.ffi.specs.Ffi.{cleared, afterFresh, freshCall, heard, startRecord, startCall}
-use Rattle.ffi.specs.Ffi.{afterStep, stepRecord, stepCall}
+use Rattle.stepping.specs.Stepping.{heard}
+use Rattle.ffi.specs.Ffi.{cleared, afterFresh, freshCall, startRecord, startCall}
+use Rattle.stepping.specs.Stepping.{afterStep, stepRecord, stepCall}
 use Rattle.driven.specs.Driven.{Holds, Did, allIdle, FreshIs, StartIs, StepIs}
 use Rattle.driven.proofs.Words.{counters-length, counters-put, fresh-blank}
 use Rattle.driven.proofs.Holding.{decoded, kept-holds, step-of-record, start-of-record}

@@ -25,7 +25,8 @@ use Rattle.encoding.specs.Encoding.{encode, opFrom, decode}
 use Rattle.encoding.proofs.Trip.{decode-encode}
 use Rattle.packing.specs.Packing.{countersAt, putCounters, recordAt}
 use Rattle.calling.specs.Calling.{lengthsFit, kept}
-use Rattle.ffi.specs.Ffi.{startRecord, startSession, startCall, stepRecord, stepSession, stepCall}
+use Rattle.stepping.specs.Stepping.{stepRecord, stepSession, stepCall}
+use Rattle.ffi.specs.Ffi.{startRecord, startSession, startCall}
 use Rattle.ffi.proofs.Kept.{refused-start-keeps, refused-step-keeps}
 use Rattle.driven.specs.Driven.{Holds}
 use Rattle.driven.proofs.Words.{counters-length, counters-put, record-beside, record-length, counters-beside}

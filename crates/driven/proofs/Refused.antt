@@ -31,10 +31,11 @@ use Rattle.encoding.specs.Encoding.{encode, opFrom, decode}
 use Rattle.packing.specs.Packing.{countersAt, recordAt, putRecord, replyOf, numberOf}
 use Rattle.exchange.specs.Exchange.{Left, left, stays, afterRead, readLoaded, readCall}
 use Rattle.calling.specs.Calling.{onDecoded}
-use Rattle.ffi.specs.Ffi.{cleared, afterFresh, freshCall, Heard, heard, deaf}
+use Rattle.stepping.specs.Stepping.{Heard, heard}
+use Rattle.ffi.specs.Ffi.{cleared, afterFresh, freshCall, deaf}
 use Rattle.ffi.specs.Ffi.{startRecord, startSession, startCall}
 use Rattle.calling.specs.Calling.{lengthsFit}
-use Rattle.ffi.specs.Ffi.{afterStep, stepRecord, stepSession, stepCall}
+use Rattle.stepping.specs.Stepping.{afterStep, stepRecord, stepSession, stepCall}
 use Rattle.ffi.proofs.Kept.{record-kept}
 use Rattle.driven.specs.Always.{Unchanged, RefusedKeeps}
 use Rattle.driven.proofs.Checked.{refuses-number, kept-unchanged, checked-by}

@@ -15,7 +15,8 @@ use Rattle.terms.specs.declared.Size.{Size}
 use Rattle.reached.specs.Reached.{State, Past, Reached}
 use Rattle.exchange.specs.Exchange.{left, readCall}
 use Rattle.calling.specs.Calling.{strode}
-use Rattle.ffi.specs.Ffi.{cleared, freshCall, heard, startCall, stepCall, stepsCall}
+use Rattle.stepping.specs.Stepping.{heard, stepCall}
+use Rattle.ffi.specs.Ffi.{cleared, freshCall, startCall, stepsCall}
 use Rattle.driven.specs.Driven.{Holds}
 
 -- ---- slices that hold a reached register

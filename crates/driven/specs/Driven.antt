@@ -29,7 +29,8 @@ use Rattle.encoding.specs.Encoding.{encode, opFrom}
 use Rattle.packing.specs.Packing.{countersAt, recordAt, replyWith, replyOf, numberOf, putReply}
 use Rattle.exchange.specs.Exchange.{wordsRoom, left, readCall}
 use Rattle.calling.specs.Calling.{tally, strode}
-use Rattle.ffi.specs.Ffi.{cleared, freshCall, heard, startCall, stepCall, stepsCall}
+use Rattle.stepping.specs.Stepping.{heard, stepCall}
+use Rattle.ffi.specs.Ffi.{cleared, freshCall, startCall, stepsCall}
 
 -- ---- the slices hold σ: its tables, its counters, and the record of each of its sixteen sessions
 pub record Holds (ns es ws : List ℕ) (σ : State) : Type 0 where

@@ -18,7 +18,8 @@ use Rattle.packing.specs.Packing.{countersAt, putCounters, recordAt, putRecord,
 use Rattle.packing.proofs.Same.{counters-same, record-same}
 use Rattle.exchange.specs.Exchange.{stays}
 use Rattle.calling.specs.Calling.{kept}
-use Rattle.ffi.specs.Ffi.{deaf, startRecord, stepRecord}
+use Rattle.stepping.specs.Stepping.{stepRecord}
+use Rattle.ffi.specs.Ffi.{deaf, startRecord}
 
 module _ (ws : List ℕ) (who : ℕ) (s : Session) (read : decode (recordAt ws who) ≡ Decoded.Record s) where
   pub record-kept : putRecord ws who (encode s) ≡ ws

@@ -6,7 +6,8 @@ use mathlib.Core.List.{List}
 use Rattle.terms.specs.declared.Size.{Size}
 use Rattle.exchange.specs.Exchange.{left}
 use Rattle.calling.specs.Calling.{strode}
-use Rattle.ffi.specs.Ffi.{cleared, freshCall, heard, startCall, stepCall, stepsCall}
+use Rattle.stepping.specs.Stepping.{heard, stepCall}
+use Rattle.ffi.specs.Ffi.{cleared, freshCall, startCall, stepsCall}
 
 pub fresh-one : (z : Size) (ns es ws ns₁ es₁ ws₁ ns₂ es₂ ws₂ : List ℕ) (r₁ r₂ : ℕ)
     → cleared ns₁ es₁ ws₁ r₁ ≡ freshCall z ns es ws → cleared ns₂ es₂ ws₂ r₂ ≡ freshCall z ns es ws

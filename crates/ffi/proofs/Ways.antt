@@ -11,27 +11,24 @@ use Rattle.terms.specs.Terms.{small, refusalNumber}
 use Rattle.terms.specs.declared.Size.{Size}
 use Rattle.terms.specs.declared.Counters.{Counters}
 use Rattle.terms.specs.declared.Op.{Op}
-use Rattle.terms.specs.declared.Answer.{Answer}
 use Rattle.terms.specs.declared.Refusal.{Refusal}
 use Rattle.steps.specs.declared.Session.{Session}
-use Rattle.steps.specs.Steps.{idle}
-use Rattle.closing.specs.Told.{finishAnswer}
 use Rattle.register.specs.declared.Started.{Started}
 use Rattle.register.specs.declared.Opened.{Opened}
 use Rattle.register.specs.Register.{opened, freshOf, startOf}
 use Rattle.encoding.specs.declared.Words.{Words}
 use Rattle.encoding.specs.declared.Decoded.{Decoded}
 use Rattle.encoding.specs.Encoding.{encode, opFrom, decode}
-use Rattle.packing.specs.declared.Reply.{Reply}
-use Rattle.packing.specs.Packing.{countersAt, putCounters, recordAt, putRecord, freshWords, refusedBy, replyOf}
+use Rattle.packing.specs.Packing.{recordAt, putRecord, freshWords, refusedBy}
 use Rattle.packing.specs.Packing.{putReply}
 use Rattle.exchange.specs.Exchange.{Told, told, left, stays}
 use Rattle.calling.specs.Calling.{lengthsFit, refusal, answered}
-use Rattle.ffi.specs.Ffi.{cleared, freshCall, Heard, heard}
+use Rattle.ffi.specs.Ffi.{unfit, cleared, freshCall}
 use Rattle.calling.specs.Calling.{Strode, strode, tally, manyCall}
 use Rattle.calling.proofs.Ways.{fit-words, fit-entries-not, fit-nodes-not}
 use Rattle.ffi.specs.Ffi.{stepsCall}
-use Rattle.ffi.specs.Ffi.{startRecord, startSession, startCall, settled, ended, stepCall}
+use Rattle.ffi.specs.Ffi.{startRecord, startSession, startCall}
+use Rattle.stepping.specs.Stepping.{Heard, heard, stepCall}
 
 -- ---- fresh
 module _ (z : Size) (ns es ws : List ℕ) where
@@ -97,68 +94,44 @@ pub ruleset start-sessions = (starts-decoded, starts-malformed)
 pub ruleset starts = (start-silent, start-lengths, start-session, start-goes)
 
 -- ---- step
+module _ (out : List ℕ) where
+  pub unfit-told : (t : Told) → length out ≡ 3 → t ≡ refusal out 7 → t ≡ unfit out
+  unfit-told t h e = rw (eq-eqb _ _ h, e)
+
+  pub unfit-silent : (length out ≡ 3 → ⊥) → told out 7 ≡ unfit out
+  unfit-silent h = rw (ne-eqb _ _ h)
+
+pub ruleset unfitting = (unfit-told, unfit-silent)
+
 module _ (ns es ws : List ℕ) where
   pub fit-all : length ns ≡ 3072 → length es ≡ 8192 → length ws ≡ 147 → lengthsFit small ns es ws ≡ true
   fit-all hn he hw = sym (fit-words ns es ws hn he) ∙ eq-eqb _ _ hw
 
-  module _ (out : List ℕ) (who : ℕ) where
-    pub step-silent : (length out ≡ 3 → ⊥) → left ns es ws out 7 ≡ stepCall small ns es ws out who
+  module _ (out : List ℕ) (who : ℕ) (out′ : List ℕ) (n : ℕ) where
+    step-out : (b : Bool) → told out′ n ≡ cond b (refusal out 7) (told out 7)
+        → left ns es ws out′ n ≡ cond b (stays ns es ws out 7) (left ns es ws out 7)
+    step-out true e = cc
+    step-out false e = cc
+
+    step-unfit : false ≡ lengthsFit small ns es ws → told out′ n ≡ unfit out
+        → left ns es ws out′ n ≡ stepCall small ns es ws out who
     unfolding stepCall
-    step-silent h = rw (ne-eqb _ _ h)
+    step-unfit h e = rw (← h) (step-out (eqb (length out) 3) e)
 
-    module _ (out′ : List ℕ) (n : ℕ) (three : length out ≡ 3) where
-      step-unfit : false ≡ lengthsFit small ns es ws → told out′ n ≡ refusal out 7
+    pub step-nodes : (length ns ≡ 3072 → ⊥) → told out′ n ≡ unfit out
+        → left ns es ws out′ n ≡ stepCall small ns es ws out who
+    step-nodes h e = step-unfit (fit-nodes-not ns es ws h) e
+
+    module _ (nodes : length ns ≡ 3072) (three : length out ≡ 3) (e : told out′ n ≡ refusal out 7) where
+      pub step-entries : (length es ≡ 8192 → ⊥) → left ns es ws out′ n ≡ stepCall small ns es ws out who
+      step-entries h = step-unfit (fit-entries-not ns es ws nodes h) (unfit-told out _ three e)
+
+      pub step-words : length es ≡ 8192 → (length ws ≡ 147 → ⊥)
           → left ns es ws out′ n ≡ stepCall small ns es ws out who
-      unfolding stepCall
-      step-unfit h e = rw (eq-eqb _ _ three, ← h) (cc)
+      step-words entries h =
+          step-unfit (sym (ne-eqb _ _ h) ∙ fit-words ns es ws nodes entries) (unfit-told out _ three e)
 
-      step-unknown : (b : Bool) → told out′ n ≡ refusal out (cond b 1 7)
-          → left ns es ws out′ n ≡ cond b (stays ns es ws out 1) (stays ns es ws out 7)
-      step-unknown true e = cc
-      step-unknown false e = cc
-
-      pub step-nodes : (length ns ≡ 3072 → ⊥) → told out′ n ≡ refusal out 7
-          → left ns es ws out′ n ≡ stepCall small ns es ws out who
-      step-nodes h e = step-unfit (fit-nodes-not ns es ws h) e
-
-      module _ (nodes : length ns ≡ 3072) where
-        pub step-entries : (length es ≡ 8192 → ⊥) → told out′ n ≡ refusal out 7
-            → left ns es ws out′ n ≡ stepCall small ns es ws out who
-        step-entries h e = step-unfit (fit-entries-not ns es ws nodes h) e
-
-        module _ (entries : length es ≡ 8192) where
-          pub step-words : (length ws ≡ 147 → ⊥) → told out′ n ≡ refusal out 7
-              → left ns es ws out′ n ≡ stepCall small ns es ws out who
-          step-words h e = step-unfit (sym (ne-eqb _ _ h) ∙ fit-words ns es ws nodes entries) e
-
-          pub step-session : 16 ≤ who → told out′ n ≡ refusal out (cond (eqb (length ws) 147) 1 7)
-              → left ns es ws out′ n ≡ stepCall small ns es ws out who
-          unfolding stepCall
-          step-session h e =
-              rw (eq-eqb _ _ three, ← fit-words ns es ws nodes entries, le-ltb who 16 h)
-              (step-unknown (eqb (length ws) 147) e)
-
-pub ruleset unstepped = (step-silent, step-nodes)
-
-pub ruleset checked-steps = (fit-all, step-entries, step-words, step-session)
-
-module _ (ws out : List ℕ) (t : Told) where
-  pub unknown-session : length ws ≡ 147 → t ≡ refusal out 1 → t ≡ refusal out (cond (eqb (length ws) 147) 1 7)
-  unknown-session h e = rw (eq-eqb _ _ h, e)
-
-  pub unknown-words : (length ws ≡ 147 → ⊥) → t ≡ refusal out 7 → t ≡ refusal out (cond (eqb (length ws) 147) 1 7)
-  unknown-words h e = rw (ne-eqb _ _ h, e)
-
-pub ruleset unknown = (unknown-session, unknown-words)
-
-pub settles : (ws a b out out′ : List ℕ) (who : ℕ) (c : Counters) (w : Words) (r : Reply) → a ≡ putCounters ws c
-    → b ≡ putRecord a who w → out′ ≡ putReply out r → heard b out′ 0 ≡ settled ws out who c w r
-settles ws a b out out′ who c w r h i j = rw (i, h, j)
-
-pub ends-update : (ws out : List ℕ) (who : ℕ) (removes : Bool) (n : ℕ) (c : Counters) (w : Words) (a : Answer)
-    (r : Reply) (t : Heard) → c ≡ countersAt ws → w ≡ encode idle → a ≡ finishAnswer removes n → r ≡ replyOf a
-    → t ≡ settled ws out who c w r → t ≡ ended ws out who removes n
-ends-update ws out who removes n c w a r t h i j k e = rw (e, h, i, k, j)
+pub ruleset checked-steps = (fit-all, step-entries, step-words)
 
 -- ---- several steps
 module _ (z : Size) (ns es ws ps out : List ℕ) (who limit : ℕ) where

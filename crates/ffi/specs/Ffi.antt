@@ -1,48 +1,38 @@
 -- The calls for other programs: what each leaves in the lent slices, and the number that it returns.
--- In order: the checks; fresh (7); start (7, 1, 8, then 2, 3, 4 by the register); step (7, 1, 8, then 5 and 8 by the
--- register); several steps (the same). `z` is the size, `ns` and `es` are the tables, `ws` the counters' and records'
+-- In order: what a walk needs; wrong lengths; fresh (7); start (7, 1, 8, then 2, 3, 4 by the register); several steps (7, 1, 8, then 5
+-- and 8 by the register). `z` is the size, `ns` and `es` are the tables, `ws` the counters' and records'
 -- words, `ps` the lent pairs, `out` the answer's words. A refusal changes nothing but the answer (proofs/Kept.antt);
 -- an answer of another length than 3, or 5 for several steps, stays.
--- Not here: lengths, answers and several steps (crate calling), listings (crate exchange), the register's calls (crate
--- register), where words lie (crate packing). Assumes nothing.
-use Prim.Native.Nat.{ℕ, _<_}
+-- Not here: the checks and one step (crate stepping), answers and several steps (crate calling), listings (crate
+-- exchange), the register's calls (crate register), where words lie (crate packing). Assumes nothing.
+use Prim.Native.Nat.{ℕ}
 use mathlib.Core.Path.{_≡_}
 use mathlib.Core.List.{List}
-use mathlib.Core.Bool.{Bool, true, cond}
+use mathlib.Core.Bool.{true, cond}
 use lib.ListN.{length}
-use lib.Dec.{ltb, eqb}
+use lib.Dec.{eqb}
 use Rattle.terms.specs.Terms.{refusalNumber}
 use Rattle.terms.specs.declared.Size.{Size}
-use Rattle.terms.specs.declared.Counters.{Counters}
 use Rattle.terms.specs.declared.Op.{Op}
 use Rattle.steps.specs.declared.Session.{Session}
-use Rattle.steps.specs.Steps.{idle, Done, done}
 use Rattle.register.specs.declared.Started.{Started}
 use Rattle.register.specs.declared.Opened.{Opened}
-use Rattle.register.specs.Register.{Fresh, opened, freshOf, startOf, stepOf}
-use Rattle.encoding.specs.declared.Words.{Words}
+use Rattle.register.specs.Register.{Fresh, opened, freshOf, startOf}
 use Rattle.encoding.specs.Encoding.{encode, opFrom, decode}
-use Rattle.packing.specs.declared.Reply.{Reply}
-use Rattle.packing.specs.Packing.{countersAt, putCounters, opAt, recordAt, putRecord, freshWords, refusedBy, replyOf}
-use Rattle.exchange.specs.Exchange.{wordsRoom, Left, left, stays}
-use Rattle.packing.specs.Packing.{putTwo, numberOf, putReply}
+use Rattle.packing.specs.Packing.{opAt, recordAt, putRecord, freshWords, refusedBy, replyOf, numberOf, putReply}
+use Rattle.exchange.specs.Exchange.{wordsRoom, Told, told}
 use Rattle.shortly.specs.Shortly.{seeksOf}
-use Rattle.closing.specs.Told.{finishAnswer}
-use Rattle.calling.specs.Calling.{lengthsFit, onDecoded, kept, Strode, strode, standsStill, stepsSession}
+use Rattle.calling.specs.Calling.{refusal, onDecoded, Strode, strode, standsStill, stepsSession}
+use Rattle.stepping.specs.Stepping.{checked, admitted, Heard, heard}
 
--- what start, step and steps check first, in this order: an answer of another length stays as it is; 7; 1
-abbrev pub checked : {A : Type 0} → ℕ → Size → List ℕ → List ℕ → List ℕ → List ℕ → ℕ → A → (ℕ → A) → A → A
-checked room z ns es ws out who silent refused goes =
-    cond (eqb (length out) room) (cond (lengthsFit z ns es ws) (cond (ltb who 16) goes (refused 1)) (refused 7)) silent
-
--- what has passed these checks
-abbrev pub admitted : Size → List ℕ → List ℕ → List ℕ → List ℕ → ℕ → Type 0
-admitted z ns es ws out who = (length out ≡ 3) × (lengthsFit z ns es ws ≡ true) × (who < 16)
-
--- and, with words of an operation that seeks this key
+-- what has passed the checks, with words of an operation that seeks this key
 abbrev pub walker : Size → List ℕ → List ℕ → List ℕ → List ℕ → ℕ → ℕ → Type 0
 walker z ns es ws out who sought =
     admitted z ns es ws out who × (seeksOf (opAt ws who) ≡ true) × (sought ≡ opAt ws who .first)
+
+-- what is left of an answer where the nodes have another length
+abbrev pub unfit : List ℕ → Told
+unfit out = cond (eqb (length out) 3) (refusal out 7) (told out 7)
 
 -- ---- fresh
 pub data Cleared : Type 0 where
@@ -55,10 +45,7 @@ afterFresh ws (opened ns es (Opened.Refused why)) = cleared ns es ws (refusalNum
 unfoldable pub freshCall : Size → List ℕ → List ℕ → List ℕ → Cleared
 freshCall z ns es ws = cond (eqb (length ws) wordsRoom) (afterFresh ws (freshOf z ns es)) (cleared ns es ws 7)
 
--- ---- start: the words, the answer and the number returned; the tables are only read
-pub data Heard : Type 0 where
-  heard : List ℕ → List ℕ → ℕ → Heard
-
+-- ---- start; the tables are only read
 abbrev pub deaf : List ℕ → List ℕ → ℕ → Heard
 deaf ws out number = heard ws (putReply out (refusedBy number)) number
 
@@ -79,36 +66,6 @@ unfoldable pub startCall : Size → List ℕ → List ℕ → List ℕ → List 
 startCall z ns es ws out who kind first second =
     checked 3 z ns es ws out who (heard ws out 7) (deaf ws out)
     (startSession z ns es ws out who (opFrom kind first second))
-
--- two other words of one session's record, another answer, and no refusal
-abbrev pub went : List ℕ → List ℕ → ℕ → ℕ → ℕ → ℕ → ℕ → Reply → Heard
-went ws out who j x k y r = heard (putTwo ws who j x k y) (putReply out r) 0
-
--- other counters, another record of one session and another answer, and no refusal
-abbrev pub settled : List ℕ → List ℕ → ℕ → Counters → Words → Reply → Heard
-settled ws out who c w r = heard (putRecord (putCounters ws c) who w) (putReply out r) 0
-
--- an update ends: the session is idle
-abbrev pub ended : List ℕ → List ℕ → ℕ → Bool → ℕ → Heard
-ended ws out who removes number =
-    settled ws out who (countersAt ws) (encode idle) (replyOf (finishAnswer removes number))
-
--- ---- step: both tables, the words, the answer and the number returned
-abbrev pub afterStep : List ℕ → List ℕ → ℕ → Done → Left
-afterStep ws out who (done ns es r) =
-    left ns es (kept ws who (r .counters) (r .session)) (putReply out (replyOf (r .answer)))
-    (numberOf (replyOf (r .answer)))
-
-unfoldable pub stepRecord : Size → List ℕ → List ℕ → List ℕ → List ℕ → ℕ → Session → Left
-stepRecord z ns es ws out who s = afterStep ws out who (stepOf z ns es (countersAt ws) who s)
-
-unfoldable pub stepSession : Size → List ℕ → List ℕ → List ℕ → List ℕ → ℕ → Left
-stepSession z ns es ws out who =
-    onDecoded (decode (recordAt ws who)) (stepRecord z ns es ws out who) (stays ns es ws out 8)
-
-unfoldable pub stepCall : Size → List ℕ → List ℕ → List ℕ → List ℕ → ℕ → Left
-stepCall z ns es ws out who =
-    checked 3 z ns es ws out who (left ns es ws out 7) (stays ns es ws out) (stepSession z ns es ws out who)
 
 -- ---- several steps (crate calling), where the answer has five words
 unfoldable pub stepsCall : Size → List ℕ → List ℕ → List ℕ → List ℕ → List ℕ → ℕ → ℕ → Strode

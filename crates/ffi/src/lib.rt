@@ -1,51 +1,35 @@
 // The register for other programs (C, Rust): fresh, start, step, many steps and listings, over lent slices.
-// In order: fresh; start; many steps; one step, whole and by a short way (crate shortly); writing and reading a
+// In order: fresh; start; many steps; one step, with a walk's short way (crate shortly); writing and reading a
 // listing. `words` are 147: the counters and sixteen records (crate packing); `answer` is 3: the answer's name and
 // values, and for many steps two numbers more. Each call returns 0 or a refusal's number; a refusal changes nothing
 // but the answer; where the answer has another length, nothing at all is written. No call has a `requires`: wrong
 // lengths are refused 7, words that are no record's 8. include/ravencrumb.h declares the calls.
-// Not here: the checks, answering and many steps (crate calling), what the calls mean (crate register). Assumes
-// nothing.
+// Not here: the checks, answering and many steps (crate calling), a step that is no walk that moves on (crate stepping),
+// what the calls mean (crate register). Assumes nothing.
 ghost use mathlib.Core.Path.{_≡_};
-ghost use mathlib.Core.Bool.{cond};
 ghost use lib.ListN.{length};
-ghost use lib.Dec.{eqb};
 ghost use Rattle.terms.specs.Terms.{small};
-ghost use Rattle.steps.specs.Steps.{idle};
-ghost use Rattle.encoding.specs.Encoding.{encode};
-ghost use Rattle.calling.specs.Calling.{refusal, strode};
+ghost use Rattle.listing.specs.Listing.{keyRoom};
+ghost use Rattle.exchange.specs.Exchange.{told, left, wrote, writeCall, readCall};
+ghost use Rattle.calling.specs.Calling.{strode};
+ghost use Rattle.stepping.specs.Stepping.{heard, admitted, stepCall};
 ghost use Rattle.ffi.specs.Ffi.{
   cleared,
   freshCall,
-  heard,
   startRecord,
   startSession,
   startCall,
-  went,
-  settled,
-  ended,
-  admitted,
   walker,
-  stepCall,
+  unfit,
   stepsCall,
 };
-ghost use Rattle.listing.specs.Listing.{keyRoom};
-ghost use Rattle.exchange.specs.Exchange.{told, left, wordsRoom, wrote, writeCall, readCall};
 use encoding::Decoded;
-use encoding::OpWords;
-use encoding::PhaseWords;
-use encoding::Words;
 use packing::A;
 use packing::B;
-use packing::C;
-use packing::PHASE;
-use packing::Reply;
 use register::Opened;
-use shortly::Ranged;
 use shortly::Walked;
 use steps::Session;
 use terms::Answer;
-use terms::Counters;
 use terms::Op;
 
 #[no_mangle]
@@ -159,239 +143,6 @@ pub extern "C" fn ravencrumb_steps(
     7
 }
 
-// The whole call: one of many steps. No key is looked for in the pair lent to it.
-fn step_fully(
-    nodes: &mut [u32],
-    entries: &mut [u32],
-    words: &mut [u32],
-    answer: &mut [u32],
-    who: u32,
-) -> u32
-    ensures { λ r. ⌜ left (now (nodes .exit)) (now (entries .exit)) (now (words .exit)) (now (answer .exit)) r
-        ≡ stepCall small (now (nodes .entry)) (now (entries .entry)) (now (words .entry)) (now (answer .entry))
-        who ⌝ }
-{
-    if answer.len() == 3 {
-        let mut pair = [0; 2];
-        return calling::many(nodes, entries, words, &mut pair, answer, who, 1);
-    }
-    7
-}
-
-// Puts what a short way tells: the two words that change, and the answer, which is no refusal.
-fn go(
-    words: &mut [u32],
-    answer: &mut [u32],
-    who: u32,
-    j: u32,
-    x: u32,
-    k: u32,
-    y: u32,
-    reply: Reply,
-) -> u32
-    ensures { λ r. ⌜ heard (now (words .exit)) (now (answer .exit)) r
-        ≡ went (now (words .entry)) (now (answer .entry)) who j x k y reply ⌝ }
-{
-    packing::put_two(words, who, j, x, k, y);
-    packing::put_reply(answer, reply);
-    0
-}
-
-fn step_ranging(
-    nodes: &mut [u32],
-    entries: &mut [u32],
-    words: &mut [u32],
-    answer: &mut [u32],
-    who: u32,
-) -> u32
-    requires { ⌜ admitted small (now nodes) (now entries) (now words) (now answer) who ⌝ }
-    ensures { λ r. ⌜ left (now (nodes .exit)) (now (entries .exit)) (now (words .exit)) (now (answer .exit)) r
-        ≡ stepCall small (now (nodes .entry)) (now (entries .entry)) (now (words .entry)) (now (answer .entry))
-        who ⌝ }
-{
-    let w = packing::record_at(words, who);
-    match shortly::range(nodes, entries, w) {
-        Ranged::Leads(phase, to) => {
-            let reply = packing::say(Answer::Working);
-            go(words, answer, who, PHASE, phase, A, to, reply)
-        }
-        Ranged::Hands(handed, key, value) => {
-            let reply = packing::say(Answer::Key(key, value));
-            go(words, answer, who, PHASE, 11, C, handed, reply)
-        }
-        Ranged::Long => step_fully(nodes, entries, words, answer, who),
-    }
-}
-
-// Puts other counters, another record and the answer, which is no refusal.
-fn settle(words: &mut [u32], answer: &mut [u32], who: u32, c: Counters, w: Words, reply: Reply) -> u32
-    ensures { λ r. ⌜ heard (now (words .exit)) (now (answer .exit)) r
-        ≡ settled (now (words .entry)) (now (answer .entry)) who c w reply ⌝ }
-{
-    packing::put_counters(words, c);
-    packing::put_record(words, who, w);
-    packing::put_reply(answer, reply);
-    0
-}
-
-fn step_numbering(
-    nodes: &mut [u32],
-    entries: &mut [u32],
-    words: &mut [u32],
-    answer: &mut [u32],
-    who: u32,
-) -> u32
-    requires { ⌜ admitted small (now nodes) (now entries) (now words) (now answer) who ⌝ }
-    ensures { λ r. ⌜ left (now (nodes .exit)) (now (entries .exit)) (now (words .exit)) (now (answer .exit)) r
-        ≡ stepCall small (now (nodes .entry)) (now (entries .entry)) (now (words .entry)) (now (answer .entry))
-        who ⌝ }
-{
-    let c = packing::counters_at(words);
-    let o = packing::op_at(words, who);
-    let p = packing::phase_at(words, who);
-    let n = closing::number(c.stamp, o, p);
-    if n == 0 {
-        return step_fully(nodes, entries, words, answer, who);
-    }
-    let raised = Counters {
-        nodes: c.nodes,
-        entries: c.entries,
-        stamp: n,
-    };
-    let phase = PhaseWords {
-        phase: 7,
-        a: p.a,
-        b: p.b,
-        c: p.c,
-        d: p.d,
-        e: n,
-    };
-    let w = Words { op: o, phase };
-    let reply = packing::say(Answer::Working);
-    settle(words, answer, who, raised, w, reply)
-}
-
-fn idle_words() -> Words
-    ensures { λ r. ⌜ r ≡ encode idle ⌝ }
-{
-    let op = OpWords {
-        kind: 0,
-        first: 0,
-        second: 0,
-    };
-    let phase = PhaseWords {
-        phase: 0,
-        a: 0,
-        b: 0,
-        c: 0,
-        d: 0,
-        e: 0,
-    };
-    Words { op, phase }
-}
-
-fn end_update(words: &mut [u32], answer: &mut [u32], who: u32, removes: bool, number: u32) -> u32
-    ensures { λ r. ⌜ heard (now (words .exit)) (now (answer .exit)) r
-        ≡ ended (now (words .entry)) (now (answer .entry)) who removes number ⌝ }
-{
-    let c = packing::counters_at(words);
-    let w = idle_words();
-    let given = closing::answer(removes, number);
-    let reply = packing::say(given);
-    settle(words, answer, who, c, w, reply)
-}
-
-fn step_finishing(
-    nodes: &mut [u32],
-    entries: &mut [u32],
-    words: &mut [u32],
-    answer: &mut [u32],
-    who: u32,
-) -> u32
-    requires { ⌜ admitted small (now nodes) (now entries) (now words) (now answer) who ⌝ }
-    ensures { λ r. ⌜ left (now (nodes .exit)) (now (entries .exit)) (now (words .exit)) (now (answer .exit)) r
-        ≡ stepCall small (now (nodes .entry)) (now (entries .entry)) (now (words .entry)) (now (answer .entry))
-        who ⌝ }
-{
-    let o = packing::op_at(words, who);
-    let p = packing::phase_at(words, who);
-    if closing::finish(nodes, entries, o, p) {
-        return end_update(words, answer, who, o.kind == 2, p.e);
-    }
-    step_fully(nodes, entries, words, answer, who)
-}
-
-fn step_updating(
-    nodes: &mut [u32],
-    entries: &mut [u32],
-    words: &mut [u32],
-    answer: &mut [u32],
-    who: u32,
-) -> u32
-    requires { ⌜ admitted small (now nodes) (now entries) (now words) (now answer) who ⌝ }
-    ensures { λ r. ⌜ left (now (nodes .exit)) (now (entries .exit)) (now (words .exit)) (now (answer .exit)) r
-        ≡ stepCall small (now (nodes .entry)) (now (entries .entry)) (now (words .entry)) (now (answer .entry))
-        who ⌝ }
-{
-    let o = packing::op_at(words, who);
-    let p = packing::phase_at(words, who);
-    let phase = advancing::advance(nodes, who, o, p);
-    if phase == 0 {
-        return step_fully(nodes, entries, words, answer, who);
-    }
-    let reply = packing::say(Answer::Working);
-    go(words, answer, who, PHASE, phase, A, p.a, reply)
-}
-
-fn step_by_phase(
-    nodes: &mut [u32],
-    entries: &mut [u32],
-    words: &mut [u32],
-    answer: &mut [u32],
-    who: u32,
-) -> u32
-    requires { ⌜ admitted small (now nodes) (now entries) (now words) (now answer) who ⌝ }
-    ensures { λ r. ⌜ left (now (nodes .exit)) (now (entries .exit)) (now (words .exit)) (now (answer .exit)) r
-        ≡ stepCall small (now (nodes .entry)) (now (entries .entry)) (now (words .entry)) (now (answer .entry))
-        who ⌝ }
-{
-    let phase = packing::phase_number(words, who);
-    if 11 <= phase {
-        return step_ranging(nodes, entries, words, answer, who);
-    }
-    if phase == 6 {
-        return step_numbering(nodes, entries, words, answer, who);
-    }
-    if phase == 8 {
-        return step_finishing(nodes, entries, words, answer, who);
-    }
-    step_updating(nodes, entries, words, answer, who)
-}
-
-// Every step but a walk's that moves on: it compiles to a function of its own, so that such a walk saves no registers
-// for the others. It makes the checks again because compiled code does not know of its caller's, and each use of a table
-// would make them.
-fn step_otherwise(
-    nodes: &mut [u32],
-    entries: &mut [u32],
-    words: &mut [u32],
-    answer: &mut [u32],
-    who: u32,
-) -> u32
-    ensures { λ r. ⌜ left (now (nodes .exit)) (now (entries .exit)) (now (words .exit)) (now (answer .exit)) r
-        ≡ stepCall small (now (nodes .entry)) (now (entries .entry)) (now (words .entry)) (now (answer .entry))
-        who ⌝ }
-{
-    if answer.len() == 3 {
-        if calling::right_lengths(nodes, entries, words) {
-            if who < 16 {
-                return step_by_phase(nodes, entries, words, answer, who);
-            }
-        }
-    }
-    step_fully(nodes, entries, words, answer, who)
-}
-
 // Of an operation that seeks this key.
 fn step_walking(
     nodes: &mut [u32],
@@ -410,9 +161,9 @@ fn step_walking(
     match shortly::walk(nodes, sought, p) {
         Walked::On(next) => {
             let reply = packing::say(Answer::Working);
-            go(words, answer, who, A, p.b, B, next, reply)
+            stepping::go(words, answer, who, A, p.b, B, next, reply)
         }
-        Walked::Long => step_otherwise(nodes, entries, words, answer, who),
+        Walked::Long => stepping::otherwise(nodes, entries, words, answer, who),
     }
 }
 
@@ -432,7 +183,7 @@ fn step_seeking(
     if shortly::seeks(o) {
         return step_walking(nodes, entries, words, answer, who, o.first);
     }
-    step_otherwise(nodes, entries, words, answer, who)
+    stepping::otherwise(nodes, entries, words, answer, who)
 }
 
 fn step_shortly(
@@ -450,17 +201,7 @@ fn step_shortly(
     if packing::phase_number(words, who) == 1 {
         return step_seeking(nodes, entries, words, answer, who);
     }
-    step_otherwise(nodes, entries, words, answer, who)
-}
-
-fn refuse_session(words: &[u32], answer: &mut [u32]) -> u32
-    ensures { λ r. ⌜ told (now (answer .exit)) r
-        ≡ refusal (now (answer .entry)) (cond (eqb (length (now (words .entry))) wordsRoom) 1 7) ⌝ }
-{
-    if words.len() == 147 {
-        return calling::refuse(answer, 1);
-    }
-    calling::refuse(answer, 7)
+    stepping::otherwise(nodes, entries, words, answer, who)
 }
 
 // The other checks, where the nodes and the answer have their lengths.
@@ -483,13 +224,23 @@ fn step_checked(
             }
             return calling::refuse(answer, 7);
         }
-        return refuse_session(words, answer);
+        return stepping::otherwise(nodes, entries, words, answer, who);
     }
     calling::refuse(answer, 7)
 }
 
-// By a short way where one leads: nearly all steps are a walk's or a range's. The checks stand in an order in which no
-// two in a row lead to the same refusal: compiled code would make one test of the two, which costs more than both.
+// Where the nodes have another length. An answer of another length stays as it is.
+fn refuse_nodes(answer: &mut [u32]) -> u32
+    ensures { λ r. ⌜ told (now (answer .exit)) r ≡ unfit (now (answer .entry)) ⌝ }
+{
+    if answer.len() == 3 {
+        return calling::refuse(answer, 7);
+    }
+    7
+}
+
+// By a short way where one leads: nearly all steps are a walk's or a range's. Of the checks no two in a row go on alike:
+// compiled code would make one test of the two, which costs more than both.
 #[no_mangle]
 pub extern "C" fn ravencrumb_step(
     nodes: &mut [u32],
@@ -506,12 +257,9 @@ pub extern "C" fn ravencrumb_step(
         if answer.len() == 3 {
             return step_checked(nodes, entries, words, answer, who);
         }
-        return 7;
+        return stepping::otherwise(nodes, entries, words, answer, who);
     }
-    if answer.len() == 3 {
-        return calling::refuse(answer, 7);
-    }
-    7
+    refuse_nodes(answer)
 }
 
 #[no_mangle]

@@ -72,7 +72,7 @@ module _ (o : OpWords) where
     | yes none ↦ ne-eqb (o .kind) 4 (omega arith) ∙ seeks-none (omega arith)
     | no some ↦ elim (decLe (o .kind) 3) [
       | yes key ↦ ne-eqb (o .kind) 4 (omega arith) ∙ sym (ne-eqb _ _ used) ∙ right-key o (omega arith) other key
-        ∙ seeks-right (omega arith)
+          ∙ seeks-right (omega arith)
       | no last ↦ elim (decLe (o .kind) 4) [
         | yes four ↦ eq-eqb (o .kind) 4 (omega arith) ∙ right-range o (omega arith) ∙ seeks-right (omega arith)
         | no many ↦ ne-eqb (o .kind) 4 (omega arith) ∙ right-not o (omega arith) (omega arith) ∙ seeks-right (omega arith)

@@ -1,5 +1,5 @@
 -- `ffi::ravencrumb_step` meets its contract: each way out is a law of proofs/Ways.antt. Assumes nothing.
-use Rattle.ffi.proofs.Ways.{unstepped}
+use Rattle.ffi.proofs.Ways.{step-nodes}
 use borrow.Author.Needs.{needs}
 use Rattle.ffi.proofs.ravencrumb_step.Statement.{statement}
 use Rattle.ffi.proofs.ravencrumb_step.Tie as tie
@@ -14,8 +14,12 @@ ravencrumb-step-spec =
     (λ c. search needs)
     (λ c. search needs)
     (λ c. search needs)
-    (λ c. search unstepped)
     (λ c κs. search needs)
     (λ c. search needs)
-    (λ c. search unstepped)
-    (λ c. search unstepped))
+    (λ c. search needs)
+    (λ c. search needs)
+    (λ c. search needs)
+    (λ c. search needs)
+    (λ c κs. search needs)
+    (λ c. search needs)
+    (λ c. search step-nodes))

@@ -1,5 +1,5 @@
 -- `ffi::step_seeking` meets its contract: what it calls meets the same. Assumes nothing.
-use Rattle.ffi.proofs.Short.{seeks-first}
+use Rattle.ffi.proofs.Walks.{seeks-first}
 use borrow.Author.Needs.{needs}
 use Rattle.ffi.proofs.step_seeking.Statement.{statement}
 use Rattle.ffi.proofs.step_seeking.Tie as tie

@@ -1,5 +1,5 @@
--- `ffi::step_walking` meets its contract: each way out is a law of proofs/Short.antt. Assumes nothing.
-use Rattle.ffi.proofs.Short.{walks-shortly}
+-- `ffi::step_walking` meets its contract: each way out is a law of proofs/Walks.antt. Assumes nothing.
+use Rattle.ffi.proofs.Walks.{walks-shortly}
 use borrow.Author.Needs.{needs}
 use Rattle.ffi.proofs.step_walking.Statement.{statement}
 use Rattle.ffi.proofs.step_walking.Tie as tie

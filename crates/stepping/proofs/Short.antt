@@ -1,7 +1,7 @@
--- A short way is the step: storing the two words that change, and the reply, leaves what the step of the decoded
--- record leaves.
--- In order: the call's checks; the step; the words; each way out of the functions that take a short way. Assumes
--- nothing.
+-- A short way is the step: storing the words that change, and the reply, leaves what the step of the decoded record
+-- leaves.
+-- In order: the call's checks; the step; the words; each way out of the functions that take a short way: a range's, an
+-- update's that changes the phase alone, an update's last. Assumes nothing.
 use Prim.Native.Nat.{ℕ}
 use mathlib.Core.Path.{_≡_, refl, ap, _∙_}
 use mathlib.Core.List.{List}
@@ -22,13 +22,12 @@ use Rattle.encoding.specs.Encoding.{opWords, phaseWith, encode, sessionFrom}
 use Rattle.encoding.proofs.Trip.{and-first, encode-decode}
 use Rattle.packing.specs.declared.Reply.{Reply}
 use Rattle.packing.specs.Packing.{countersAt, opAt, phaseAt, recordAt, putPhase, replyOf, numberOf, putReply}
-use Rattle.packing.proofs.Same.{counters-same, op-same, walk-put, lead-put, hand-put}
+use Rattle.packing.proofs.Same.{counters-same, op-same, lead-put, hand-put}
 use Rattle.exchange.specs.Exchange.{wordsRoom, Left, left}
-use Rattle.shortly.specs.declared.Walked.{Walked}
 use Rattle.shortly.specs.declared.Ranged.{Ranged}
-use Rattle.shortly.specs.Shortly.{seeksOf, walkShortly, rangeShortly}
-use Rattle.shortly.specs.Told.{named, Agrees, WalkTold, RangeTold}
-use Rattle.shortly.proofs.Agrees.{walk-is-step, range-is-step}
+use Rattle.shortly.specs.Shortly.{rangeShortly}
+use Rattle.shortly.specs.Told.{named, Agrees, RangeTold}
+use Rattle.shortly.proofs.Agrees.{range-is-step}
 use Rattle.advancing.specs.Advancing.{advanced, removing, advanceOf}
 use Rattle.advancing.specs.Told.{AdvanceTold}
 use Rattle.advancing.proofs.Agrees.{advance-is-step, advance-none}
@@ -36,8 +35,8 @@ use Rattle.closing.specs.Closing.{numberAhead, finished, finishAhead}
 use Rattle.closing.specs.Told.{Acts, finishAnswer}
 use Rattle.closing.proofs.Agrees.{number-is-step, finish-is-step, finish-none}
 use Rattle.calling.specs.Calling.{lengthsFit, kept}
-use Rattle.ffi.specs.Ffi.{admitted, walker, heard, went, settled, ended, afterStep, stepRecord, stepSession}
-use Rattle.ffi.specs.Ffi.{stepCall}
+use Rattle.stepping.specs.Stepping.{admitted, heard, went, settled, ended, afterStep, stepRecord, stepSession}
+use Rattle.stepping.specs.Stepping.{stepCall}
 
 no-refusal : (removes : Bool) (n : ℕ) → numberOf (replyOf (finishAnswer removes n)) ≡ 0
 unfolding numberOf
@@ -68,7 +67,7 @@ module _ (z : Size) (ns es ws out : List ℕ) (who : ℕ) (ready : admitted z ns
         ≡ putPhase ws who p
     keeps-rest = rw (counters-same ws, op-kept, op-same ws who, g .words)
 
-    short-steps : left ns′ es (putPhase ws who p) (putReply out r) 0 ≡ stepCall z ns es ws out who
+    pub short-steps : left ns′ es (putPhase ws who p) (putReply out r) 0 ≡ stepCall z ns es ws out who
     unfolding stepSession stepRecord
     short-steps = rw (call-goes, g .read, steps-to, keeps-rest, g .reply, g .number)
 
@@ -90,22 +89,6 @@ module _ (z : Size) (ns es ws out : List ℕ) (who : ℕ) (ready : admitted z ns
           let g : RangeTold z ns es who (recordAt ws who) (Ranged.Hands m k v)
           = rw told at (range-is-step z ns es who (recordAt ws who)) in
           cc (short-steps _ _ _ g, hand-put ws who 11 m)
-
-pub seeks-first : (z : Size) (ns es ws out : List ℕ) (who : ℕ) (o : OpWords) (b : Bool) → admitted z ns es ws out who
-    → o ≡ opAt ws who → b ≡ seeksOf o → b ≡ true → walker z ns es ws out who (o .first)
-seeks-first z ns es ws out who o b ready op seeks h = (ready, (cc), (cc))
-
-module _ (z : Size) (ns es ws out : List ℕ) (who sought : ℕ) (ready : walker z ns es ws out who sought) where
-  pub walks-shortly : (p : PhaseWords) (r : Reply) (x : Walked) (next n : ℕ) (ws′ out′ : List ℕ)
-      → p ≡ phaseAt ws who → x ≡ walkShortly z ns sought p → x ≡ Walked.On next
-      → r ≡ replyOf Answer.Working → heard ws′ out′ n ≡ went ws out who 7 (p .b) 8 next r
-      → left ns es ws′ out′ n ≡ stepCall z ns es ws out who
-  walks-shortly p r x next n ws′ out′ phase e goes says puts =
-      let told : walkShortly z ns (opAt ws who .first) (phaseAt ws who) ≡ Walked.On next
-      = rw (← ready .2, ← phase, ← e, goes) in
-      let g : WalkTold z ns es who (recordAt ws who) (Walked.On next)
-      = rw told at (walk-is-step z ns es who (recordAt ws who) (ready .1)) in
-      cc (short-steps z ns es ws out who (ready .0) _ _ _ g, walk-put ws who (phaseAt ws who .b) next)
 
 -- ---- an update's step that changes the phase alone
 module _ (z : Size) (ns es ws out : List ℕ) (who : ℕ) (o : OpWords) (p : PhaseWords) (ns′ : List ℕ) (f : ℕ)

@@ -1,11 +1,11 @@
--- `ffi::step_otherwise` meets its contract: what it calls meets the same, and its checks are passed.
+-- `stepping::otherwise` meets its contract: what it calls meets the same, and its checks are passed.
 -- Assumes nothing.
 use borrow.Author.Needs.{needs}
-use Rattle.ffi.proofs.step_otherwise.Statement.{statement}
-use Rattle.ffi.proofs.step_otherwise.Tie as tie
+use Rattle.stepping.proofs.otherwise.Statement.{statement}
+use Rattle.stepping.proofs.otherwise.Tie as tie
 
-pub step-otherwise-spec : {M : Type 1} → statement M
-step-otherwise-spec =
+pub otherwise-spec : {M : Type 1} → statement M
+otherwise-spec =
     tie.close
     (tie.spec
     (λ c κs. search needs)

@@ -1,11 +1,11 @@
--- `ffi::step_ranging` meets its contract: each way out is a law of proofs/Short.antt. Assumes nothing.
-use Rattle.ffi.proofs.Short.{leads-shortly, hands-shortly}
+-- `stepping::ranging` meets its contract: each way out is a law of proofs/Short.antt. Assumes nothing.
+use Rattle.stepping.proofs.Short.{leads-shortly, hands-shortly}
 use borrow.Author.Needs.{needs}
-use Rattle.ffi.proofs.step_ranging.Statement.{statement}
-use Rattle.ffi.proofs.step_ranging.Tie as tie
+use Rattle.stepping.proofs.ranging.Statement.{statement}
+use Rattle.stepping.proofs.ranging.Tie as tie
 
-pub step-ranging-spec : {M : Type 1} → statement M
-step-ranging-spec =
+pub ranging-spec : {M : Type 1} → statement M
+ranging-spec =
     tie.close
     (tie.spec
     (λ c κs. search needs)

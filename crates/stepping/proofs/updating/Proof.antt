@@ -1,11 +1,11 @@
--- `ffi::step_updating` meets its contract: each way out is a law of proofs/Short.antt. Assumes nothing.
-use Rattle.ffi.proofs.Short.{advances-fully, advances-shortly}
+-- `stepping::updating` meets its contract: each way out is a law of proofs/Short.antt. Assumes nothing.
+use Rattle.stepping.proofs.Short.{advances-fully, advances-shortly}
 use borrow.Author.Needs.{needs}
-use Rattle.ffi.proofs.step_updating.Statement.{statement}
-use Rattle.ffi.proofs.step_updating.Tie as tie
+use Rattle.stepping.proofs.updating.Statement.{statement}
+use Rattle.stepping.proofs.updating.Tie as tie
 
-pub step-updating-spec : {M : Type 1} → statement M
-step-updating-spec =
+pub updating-spec : {M : Type 1} → statement M
+updating-spec =
     tie.close
     (tie.spec
     (λ c κs. search needs)

@@ -1,8 +1,8 @@
--- `ffi::settle` meets its contract: each way out is a law of proofs/Ways.antt. Assumes nothing.
-use Rattle.ffi.proofs.Ways.{settles}
+-- `stepping::settle` meets its contract: each way out is a law of proofs/Ways.antt. Assumes nothing.
+use Rattle.stepping.proofs.Ways.{settles}
 use borrow.Author.Needs.{needs}
-use Rattle.ffi.proofs.settle.Statement.{statement}
-use Rattle.ffi.proofs.settle.Tie as tie
+use Rattle.stepping.proofs.settle.Statement.{statement}
+use Rattle.stepping.proofs.settle.Tie as tie
 
 pub settle-spec : {M : Type 1} → statement M
 settle-spec =

@@ -1,8 +1,8 @@
--- `ffi::end_update` meets its contract: each way out is a law of proofs/Ways.antt. Assumes nothing.
-use Rattle.ffi.proofs.Ways.{ends-update}
+-- `stepping::end_update` meets its contract: each way out is a law of proofs/Ways.antt. Assumes nothing.
+use Rattle.stepping.proofs.Ways.{ends-update}
 use borrow.Author.Needs.{needs}
-use Rattle.ffi.proofs.end_update.Statement.{statement}
-use Rattle.ffi.proofs.end_update.Tie as tie
+use Rattle.stepping.proofs.end_update.Statement.{statement}
+use Rattle.stepping.proofs.end_update.Tie as tie
 
 pub end-update-spec : {M : Type 1} → statement M
 end-update-spec =

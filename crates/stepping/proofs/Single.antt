@@ -24,9 +24,8 @@ use Rattle.packing.specs.declared.Reply.{Reply}
 use Rattle.packing.specs.Packing.{countersAt, recordAt, refusedBy, putReply}
 use Rattle.exchange.specs.Exchange.{Left, left, stays}
 use Rattle.calling.specs.Calling.{lengthsFit, onDecoded, Strode, strode, tally, standsStill, afterSteps}
-use Rattle.ffi.specs.Ffi.{afterStep}
 use Rattle.calling.specs.Calling.{stepsRecord, stepsSession, manyCall}
-use Rattle.ffi.specs.Ffi.{stepRecord, stepSession, stepCall}
+use Rattle.stepping.specs.Stepping.{afterStep, stepRecord, stepSession, stepCall}
 
 -- ---- words past the answer's end
 module _ (out : List ℕ) (three : length out ≡ 3) where

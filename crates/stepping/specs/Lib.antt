@@ -1,0 +1,2 @@
+-- One step of a session on its words.
+pub mod Stepping
