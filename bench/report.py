@@ -145,10 +145,13 @@ PAGE = """# The benchmark
 Like with like is the first row: the twin makes one step at a time too. The rows of many steps a call compare a call
 that joins steps with a twin that does not; they say what a user of that call pays, not how well a step is compiled.
 
-"Time" is the median over {turns} turns of the ratio within a turn, and the last column goes by it. Contenders are
-measured one after another, and the machine's speed changed by up to two times between them, so a single turn says
-little and the times are weak evidence; the instruction counts repeat. The same ratios of the twin, which say what a
-call a step costs where nothing is proved: {twin}.
+"Time" is the median over {turns} turns of the ratio within a turn, and the last column goes by it. The contenders live
+each life in turn, another of them first each time, so that what slows the machine for longer than a life slows all of
+them; only concread, which is another program, follows them. The instruction counts repeat. The same ratios of the
+twin, which say what a call a step costs where nothing is proved: {twin}.
+
+A step of the twin took {slowest} in the slowest turn and {fastest} in the fastest: the machine's speed is not ours to
+set, and the nanoseconds below are the medians.
 
 ## Nanoseconds
 
@@ -170,12 +173,12 @@ Counted by valgrind (callgrind) inside the measured functions, over two lives.
   what is left at the end.
 - The clock is read around whole parts: a quarter of a range, or 32 updates. Its own cost is taken off. Each part is
   timed in 9 passes and its median taken; the sum of these is divided by the steps, keys or updates. All of that is
-  repeated in {turns} turns, one contender after another.
+  repeated in {turns} turns.
 - Ravencrumb: the C library on the caller's memory, by `ravencrumb_steps`: one call for all steps of an update, and one
   for a quarter of a range, whose keys go into a lent slice. A key handed out is two steps (Follow, Hand); an update
   walks from the head, about 130 steps. The other line makes the same steps by `ravencrumb_step`, a call each.
 - The twin: the same steps and checks in safe Rust, over vectors of words with bounds checks, records as an enum in an
-  array; a step at a time, in the same program, so that the compiler joins step and loop. Nothing of it is proved.
+  array; a call a step. Nothing of it is proved.
 - LMDB: integer keys, no sync, write map, its file in memory; an update is a write transaction with one put or delete,
   a key handed out is a cursor's step in a read transaction opened at the snapshot.
 - concread: its B+tree map; an update is a write transaction, a range iterates over a read transaction.
@@ -193,7 +196,9 @@ def main():
     machine = f"{platform.machine()}, {os.cpu_count()} cores, {platform.system()}"
     twin = [(what, ratio(turns, "twin", "lmdb", what)) for what in ("key", "update")]
     twin = ", ".join(f"{dict(FIGURES)[w]} {r[0]:.2f} times LMDB's" for w, r in twin if r) or "not measured"
+    steps = [t["twin"]["step"] for t in turns if "twin" in t]
     said = {"targets": goals, "twin": twin, "times": said_times, "counts": said_counts}
+    said |= {"slowest": f"{max(steps):.1f} ns", "fastest": f"{min(steps):.1f} ns"}
     page = PAGE.format(turns=len(turns), machine=machine, **said)
     with open(os.path.join(docs, "BENCH.md"), "w") as f:
         f.write(page)
