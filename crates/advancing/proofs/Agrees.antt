@@ -1,7 +1,7 @@
 -- What a short way of an update tells is the outcome of the step of the record that the words stand for.
 -- In order: an update's words; a phase that leads to another; Walk; Lock; Check; Link; the call; where nothing is told
 -- the nodes stay.
--- Not here: that storing the phase's number stores the record (crate ffi). Assumes nothing.
+-- Not here: that storing the phase's number stores the record (crate stepping). Assumes nothing.
 use Prim.Native.Nat.{ℕ, _+_, _≤_, _<_}
 use mathlib.Core.Path.{_≡_, refl, sym, ap, _∙_}
 use mathlib.Core.List.{List}
@@ -72,7 +72,8 @@ module _ (w : Words) where
   unfolding updatesOf
   update-words =
       eqb-cases Right (w .op .kind) 1 _ _ (λ one _. insert-words one) (λ _.
-      eqb-cases Right (w .op .kind) 2 _ _ remove-words (λ _ no. let z : _≡_ {A = ℕ} 0 1 = cc in absurd (omega (arith, z))))
+      eqb-cases Right (w .op .kind) 2 _ _ remove-words
+      (λ _ no. let z : _≡_ {A = ℕ} 0 1 = cc in absurd (omega (arith, z))))
     where
       Right : Bool → Type 0
       Right b = b ≡ true → Update w

@@ -12,7 +12,8 @@ use Rattle.steps.specs.Steps.{free}
 use Rattle.encoding.specs.declared.OpWords.{OpWords}
 use Rattle.encoding.specs.declared.PhaseWords.{PhaseWords}
 use Rattle.advancing.specs.Advancing.{updatesOf, removing, Advanced, advanced, arriveAhead, lockAhead}
-use Rattle.advancing.specs.Advancing.{standsOf, removeAhead, checkAhead, linkAhead, earlyAhead, earlyZeros, advanceOf}
+use Rattle.advancing.specs.Advancing.{standsOf, removeAhead, checkAhead, linkAhead, earlyAhead, earlyZeros}
+use Rattle.advancing.specs.Advancing.{advanceOf}
 
 -- ---- an update's words
 module _ (o : OpWords) where

@@ -1,6 +1,6 @@
 -- What a short way of an update's last steps tells is the outcome of the step of the record that the words stand for.
 -- In order: a step that acts; Number; Finish; where nothing is told the tables stay.
--- Not here: that storing the words stores the record (crate ffi). Assumes nothing.
+-- Not here: that storing the words stores the record (crate stepping). Assumes nothing.
 use Prim.Native.Nat.{ℕ, _+_, _≤_, _<_}
 use mathlib.Core.Path.{_≡_, refl, sym, _∙_}
 use mathlib.Core.List.{List}

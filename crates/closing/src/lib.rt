@@ -1,9 +1,9 @@
 // The short ways of an update's last steps, told from the record's words without decoding them.
 // In order: Number; Finish. A short way tests all that it needs, of the words and of the tables; where a test fails it
-// changes nothing and says so: the step is then the register's, on the record decoded. proofs/Agrees.antt has that what
-// a short way tells is that step's outcome.
+// changes nothing and says so: the step is then the register's, on the record decoded. proofs/Agrees.antt has that
+// what a short way tells is that step's outcome.
 // Not here: an update's other steps (crates shortly, advancing, register), storing the words and the answer (crate
-// ffi). Assumes nothing.
+// stepping). Assumes nothing.
 ghost use mathlib.Core.Path.{_≡_};
 ghost use Rattle.terms.specs.Terms.{small};
 ghost use Rattle.closing.specs.Closing.{numberAhead, usableAhead, finished, finishAhead};

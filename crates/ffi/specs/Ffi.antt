@@ -1,8 +1,8 @@
 -- The calls for other programs: what each leaves in the lent slices, and the number that it returns.
--- In order: what a walk needs; wrong lengths; fresh (7); start (7, 1, 8, then 2, 3, 4 by the register); several steps (7, 1, 8, then 5
--- and 8 by the register). `z` is the size, `ns` and `es` are the tables, `ws` the counters' and records'
--- words, `ps` the lent pairs, `out` the answer's words. A refusal changes nothing but the answer (proofs/Kept.antt);
--- an answer of another length than 3, or 5 for several steps, stays.
+-- In order: what a walk needs; wrong lengths; fresh (7); start (7, 1, 8, then 2, 3, 4 by the register); several steps
+-- (7, 1, 8, then 5 and 8 by the register). `z` is the size, `ns` and `es` are the tables, `ws` the counters' and
+-- records' words, `ps` the lent pairs, `out` the answer's words. A refusal changes nothing but the answer
+-- (proofs/Kept.antt); an answer of another length than 3, or 5 for several steps, stays.
 -- Not here: the checks and one step (crate stepping), answers and several steps (crate calling), listings (crate
 -- exchange), the register's calls (crate register), where words lie (crate packing). Assumes nothing.
 use Prim.Native.Nat.{ℕ}

@@ -4,8 +4,8 @@
 // values, and for many steps two numbers more. Each call returns 0 or a refusal's number; a refusal changes nothing
 // but the answer; where the answer has another length, nothing at all is written. No call has a `requires`: wrong
 // lengths are refused 7, words that are no record's 8. include/ravencrumb.h declares the calls.
-// Not here: the checks, answering and many steps (crate calling), a step that is no walk that moves on (crate stepping),
-// what the calls mean (crate register). Assumes nothing.
+// Not here: the checks, answering and many steps (crate calling), a step that is no walk that moves on (crate
+// stepping), what the calls mean (crate register). Assumes nothing.
 ghost use mathlib.Core.Path.{_≡_};
 ghost use lib.ListN.{length};
 ghost use Rattle.terms.specs.Terms.{small};
@@ -239,8 +239,8 @@ fn refuse_nodes(answer: &mut [u32]) -> u32
     7
 }
 
-// By a short way where one leads: nearly all steps are a walk's or a range's. Of the checks no two in a row go on alike:
-// compiled code would make one test of the two, which costs more than both.
+// By a short way where one leads: nearly all steps are a walk's or a range's. Of the checks no two in a row go on
+// alike: compiled code would make one test of the two, which costs more than both.
 #[no_mangle]
 pub extern "C" fn ravencrumb_step(
     nodes: &mut [u32],

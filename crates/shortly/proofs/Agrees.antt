@@ -1,6 +1,6 @@
 -- What a short way tells is the outcome of the step of the record that the words stand for.
 -- In order: the phase that the words say; Walk; Follow; Hand; the two calls.
--- Not here: that storing the words that change stores the record (crate ffi). Assumes nothing.
+-- Not here: that storing the words that change stores the record (crate stepping). Assumes nothing.
 use Prim.Native.Nat.{ℕ, _+_, _≤_, _<_}
 use mathlib.Core.Path.{_≡_, refl, sym, ap, _∙_}
 use mathlib.Core.List.{List}
@@ -177,7 +177,8 @@ module _ (z : Size) (ns es : List ℕ) (who : ℕ) (w : Words) where
   pub walk-is-step : seeksOf (w .op) ≡ true → WalkTold z ns es who w (walkShortly z ns (w .op .first) (w .phase))
   unfolding seeksOf
   walk-is-step =
-      eqb-cases (λ b. b ≡ true → WalkTold z ns es who w (walkShortly z ns (w .op .first) (w .phase))) (w .op .kind) 0 _ _
+      eqb-cases (λ b. b ≡ true → WalkTold z ns es who w (walkShortly z ns (w .op .first) (w .phase)))
+      (w .op .kind) 0 _ _
       (λ _ no. let z : _≡_ {A = ℕ} 0 1 = cc in absurd (omega (arith, z))) walk-told
 
   abbrev Ranges : Ranged → Type 0

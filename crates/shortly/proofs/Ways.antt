@@ -75,7 +75,8 @@ module _ (o : OpWords) where
           ∙ seeks-right (omega arith)
       | no last ↦ elim (decLe (o .kind) 4) [
         | yes four ↦ eq-eqb (o .kind) 4 (omega arith) ∙ right-range o (omega arith) ∙ seeks-right (omega arith)
-        | no many ↦ ne-eqb (o .kind) 4 (omega arith) ∙ right-not o (omega arith) (omega arith) ∙ seeks-right (omega arith)
+        | no many ↦ ne-eqb (o .kind) 4 (omega arith) ∙ right-not o (omega arith) (omega arith)
+            ∙ seeks-right (omega arith)
       ]
     ]
   ]

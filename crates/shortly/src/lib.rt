@@ -4,7 +4,7 @@
 // short way tests all that it needs, of the words and of the tables, and tells what changes; where a test fails it
 // says Long: the step is then the register's, on the record decoded. proofs/Agrees.antt has that what a short way
 // tells is that step's outcome. What is told is small, so that compiled code keeps it in registers.
-// Not here: the register's step (crate register), storing the words and the answer (crate ffi). Assumes nothing.
+// Not here: the register's step (crate register), storing the words and the answer (crate stepping). Assumes nothing.
 ghost use mathlib.Core.Path.{_≡_};
 ghost use Rattle.terms.specs.Terms.{small};
 ghost use Rattle.shortly.specs.Shortly.{

@@ -1,7 +1,8 @@
 -- One step of a session on its words: what it leaves in the lent slices, and the number that it returns.
--- In order: the checks; what is left of the words and the answer; the step (7, 1, 8, then 5 and 8 by the register). `z`
--- is the size, `ns` and `es` are the tables, `ws` the counters' and records' words, `out` the answer's words.
--- Not here: lengths and answers (crate calling), the register's step (crate register), where words lie (crate packing).
+-- In order: the checks; what is left of the words and the answer; the step (7, 1, 8, then 5 and 8 by the register).
+-- `z` is the size, `ns` and `es` are the tables, `ws` the counters' and records' words, `out` the answer's words.
+-- Not here: lengths and answers (crate calling), the register's step (crate register), where words lie (crate
+-- packing).
 -- Assumes nothing.
 use Prim.Native.Nat.{ℕ, _<_}
 use mathlib.Core.Path.{_≡_}

@@ -1,7 +1,7 @@
 // One step of a session on its words, by a short way where one leads.
 // In order: the whole step; what a walk's and a range's short way tells (crate shortly); an update's steps that change
-// the phase alone (crate advancing); Number and Finish (crate closing); by the phase, with the checks. Where no short way
-// leads, the step is one of many (crate calling), on the record decoded.
+// the phase alone (crate advancing); Number and Finish (crate closing); by the phase, with the checks. Where no short
+// way leads, the step is one of many (crate calling), on the record decoded.
 // Not here: the step for C, and a walk that moves on (crate ffi), what the short ways test (their crates). Assumes
 // nothing.
 ghost use mathlib.Core.Path.{_≡_};
@@ -238,8 +238,8 @@ fn by_phase(
 }
 
 // Every step but a walk's that moves on: it compiles to a function of its own, so that such a walk saves no registers
-// for the others. It makes the checks again because compiled code does not know of its caller's, and each use of a table
-// would make them.
+// for the others. It makes the checks again because compiled code does not know of its caller's, and each use of a
+// table would make them.
 pub fn otherwise(
     nodes: &mut [u32],
     entries: &mut [u32],
