@@ -4,8 +4,8 @@
 // short way tests all that it needs, of the words and of the tables, and tells the number of the phase that it leads
 // to; where a test fails it changes nothing and tells 0: the step is then the register's, on the record decoded.
 // proofs/Agrees.antt has that what a short way tells is that step's outcome.
-// Not here: a walk that moves on and a range's steps (crate shortly), Number and Finish (crate closing), Prepare (crate
-// register), storing the words and the answer (crate stepping). Assumes nothing.
+// Not here: a walk that moves on and a range's steps (crate shortly), Number and Finish (crate closing), Prepare
+// (crate register), storing the words and the answer (crate stepping). Assumes nothing.
 ghost use mathlib.Core.Path.{_≡_};
 ghost use Prim.Native.Nat.{_<_};
 ghost use Rattle.terms.specs.Terms.{small};

@@ -1,7 +1,7 @@
 // The short ways of an update's last steps, told from the record's words without decoding them.
-// In order: Number; Finish. A short way tests all that it needs, of the words and of the tables; where a test fails it
-// changes nothing and says so: the step is then the register's, on the record decoded. proofs/Agrees.antt has that
-// what a short way tells is that step's outcome.
+// In order: Number; Finish; what an update that is finished answers. A short way tests all that it needs, of the words
+// and of the tables; where a test fails it changes nothing and says so: the step is then the register's, on the record
+// decoded. proofs/Agrees.antt has that what a short way tells is that step's outcome.
 // Not here: an update's other steps (crates shortly, advancing, register), storing the words and the answer (crate
 // stepping). Assumes nothing.
 ghost use mathlib.Core.Path.{_≡_};
