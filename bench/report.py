@@ -44,6 +44,16 @@ def read_times(path):
     return [turns[t] for t in sorted(turns)]
 
 
+def range_share(path):
+    """Of a hundred steps, how many are a range's."""
+    with open(path) as lines:
+        for line in lines:
+            _, name, *numbers = line.split()
+            if name == "twin":
+                return round(100 * float(numbers[1]) / (float(numbers[1]) + float(numbers[4])))
+    return "-"
+
+
 def read_counts(path):
     parts = {}
     with open(path) as lines:
@@ -142,8 +152,10 @@ PAGE = """# The benchmark
 
 {targets}
 
-Like with like is the first row: the twin makes one step at a time too. The rows of many steps a call compare a call
-that joins steps with a twin that does not; they say what a user of that call pays, not how well a step is compiled.
+Like with like is the first row: the twin makes one step at a time too. A step is one of the whole workload, in which
+{share} of a hundred are a range's; a range's alone is {ranges} times the twin's. The rows of many steps a call compare
+a call that joins steps with a twin that does not; they say what a user of that call pays, not how well a step is
+compiled.
 
 "Time" is the median over {turns} turns of the ratio within a turn, and the last column goes by it. The contenders live
 each life in turn, another of them first each time, so that what slows the machine for longer than a life slows all of
@@ -198,6 +210,8 @@ def main():
     twin = ", ".join(f"{dict(FIGURES)[w]} {r[0]:.2f} times LMDB's" for w, r in twin if r) or "not measured"
     steps = [t["twin"]["step"] for t in turns if "twin" in t]
     said = {"targets": goals, "twin": twin, "times": said_times, "counts": said_counts}
+    alone = ratio(turns, "stepwise", "twin", "range step")
+    said |= {"ranges": f"{alone[0]:.2f}" if alone else "-", "share": range_share(times)}
     said |= {"slowest": f"{max(steps):.1f} ns", "fastest": f"{min(steps):.1f} ns"}
     page = PAGE.format(turns=len(turns), machine=machine, **said)
     with open(os.path.join(docs, "BENCH.md"), "w") as f:
