@@ -6,6 +6,8 @@
 // proofs/Agrees.antt has that what a short way tells is that step's outcome.
 // Not here: a walk that moves on and a range's steps (crate shortly), Number and Finish (crate closing), Prepare
 // (crate register), storing the words and the answer (crate stepping). Assumes nothing.
+#![tactic(auto)]
+
 ghost use Rattle.std.specs.Prelude.{◌≡◌, ◌<◌};
 ghost use Rattle.terms.specs.Terms.{small};
 ghost use Rattle.advancing.specs.Advancing.{

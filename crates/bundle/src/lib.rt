@@ -3,6 +3,8 @@
 // finishing. A link is 0 for none, else an entry's number and one more. `size` is how many entries the table holds.
 // Not here: whose row a link begins, and who may lay or finish (the list's). Every function is total, on any content
 // of the table (crate table).
+#![tactic(auto)]
+
 ghost use Rattle.std.specs.Prelude.{◌≡◌};
 ghost use Rattle.bundle.specs.Bundle.{word_at, put_at, look_of, holds_up, at_of, newest_of, held_of, lay_of, finish_of};
 

@@ -3,6 +3,8 @@
 // In order: the slices' lengths; answering; what is put back; many steps. `words` are 147: the counters and sixteen
 // records (crate packing). No function has a `requires`: wrong lengths are refused 7, words that are no record's 8.
 // Not here: the calls for C (crate ffi), when many steps end (crate several). Assumes nothing.
+#![tactic(auto)]
+
 ghost use Rattle.std.specs.Prelude.{◌≡◌};
 ghost use Rattle.terms.specs.Terms.{small};
 ghost use Rattle.packing.specs.Packing.{refused_by, put_reply};

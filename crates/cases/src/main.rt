@@ -1,6 +1,7 @@
 // The test program: serves each file that an argument names, each from a fresh register, and writes the answers one
 // after the other under the files' names. `args` names the files of data/, `stdout` is what must come out.
 // In order: one file; all of them. Assumes nothing.
+#![tactic(auto)]
 
 fn named(i: usize) {
     let mut path = io::buffer();

@@ -4,6 +4,8 @@
 // decoded. proofs/Agrees.antt has that what a short way tells is that step's outcome.
 // Not here: an update's other steps (crates shortly, advancing, register), storing the words and the answer (crate
 // stepping). Assumes nothing.
+#![tactic(auto)]
+
 ghost use Rattle.std.specs.Prelude.{◌≡◌};
 ghost use Rattle.terms.specs.Terms.{small};
 ghost use Rattle.closing.specs.Closing.{number_ahead, usable_ahead, finished, finish_ahead};

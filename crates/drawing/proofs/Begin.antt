@@ -26,7 +26,7 @@ pub linked_plainly : (base p x : ℕ) (ns : List ℕ) → Memᴰ x (p ∷ ns) �
 unfolding linked plainly
 linked_plainly base p x [] m = elim (ℕ_discrete x p) [
   | yes x≡p ↦ rw (eq-eqb x p x≡p)
-  | no x≢p ↦ absurd (⊎_elim x≢p Memᴰ.not_nil (Memᴰ.cases_cons m))
+  | no x≢p ↦ absurd (⊎_elim x≢p Memᴰ.not-nil (Memᴰ.cases_cons m))
 ]
 linked_plainly base p x (n ∷ ns) m = elim (ℕ_discrete x p) [
   | yes x≡p ↦ rw (eq-eqb x p x≡p)
@@ -39,7 +39,7 @@ module _ (key val : ℕ → ℕ) (start : Start) (H : History key start (rows_fr
   begin_in : (x : ℕ) → On start (beginning start) x → Memᴰ x (head ∷ members key start [])
   unfolding beginning members
   begin_in x on =
-      ⊎_elim Memᴰ.head (λ g. Memᴰ.tail (⊎_elim (λ l. l) (λ i. absurd (Memᴰ.not_nil i)) g)) on
+      ⊎_elim Memᴰ.head (λ g. Memᴰ.tail (⊎_elim (λ l. l) (λ i. absurd (Memᴰ.not-nil i)) g)) on
 
   begin_leads : (x : ℕ) → Memᴰ x (head ∷ members key start []) →
       next (rows_from start) (stamp start []) x ≡ some (plainly head (start.loaded ++ (tail ∷ [])) x)

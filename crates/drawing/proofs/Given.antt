@@ -143,7 +143,7 @@ backs_same b b' (x ∷ l) same =
 -- one more
 backs_more : (b b' : ℕ → Owned) (q : ℕ) (l : List ℕ) → Distinct l → Memᴰ q l → back (b q) ≡ 0 →
     back (b' q) ≡ 1 → ((x : ℕ) → x ≢ q → back (b' x) ≡ back (b x)) → backs b' l ≡ suc (backs b l)
-backs_more b b' q [] d m was is same = absurd (Memᴰ.not_nil m)
+backs_more b b' q [] d m was is same = absurd (Memᴰ.not-nil m)
 backs_more b b' q (x ∷ l) d m was is same = ⊎_elim
     (λ q≡x. omega (
       arith,
@@ -157,7 +157,7 @@ backs_more b b' q (x ∷ l) d m was is same = ⊎_elim
     (Memᴰ.cases_cons m)
 
 backs_less : (b : ℕ → Owned) (q : ℕ) (l : List ℕ) → Memᴰ q l → back (b q) ≡ 0 → backs b l < length l
-backs_less b q [] m was = absurd (Memᴰ.not_nil m)
+backs_less b q [] m was = absurd (Memᴰ.not-nil m)
 backs_less b q (x ∷ l) m was = ⊎_elim
     (λ q≡x. omega (arith, was, ap (λ y. back (b y)) q≡x, backs_most b l))
     (λ k. omega (arith, back_one (b x), backs_less b q l k was)) (Memᴰ.cases_cons m)
@@ -434,7 +434,7 @@ nodes_mem x (suc n) 2≤x x<n = elim (ℕ_discrete x (n + 2)) [
 ]
 
 pub mem_nodes : (x n : ℕ) → Memᴰ x (nodes_of n) → (2 ≤ x) × (x < n + 2)
-mem_nodes x zero k = absurd (Memᴰ.not_nil k)
+mem_nodes x zero k = absurd (Memᴰ.not-nil k)
 mem_nodes x (suc n) k = ⊎_elim (λ e. (omega (arith, e), omega (arith, e)))
     (λ j. let r = mem_nodes x n j in (r.0, omega (arith, r.1))) (Memᴰ.cases_cons k)
 

@@ -36,7 +36,7 @@ use Rattle.drawing.proofs.Shape.{stepped_inv}
 
 -- ---- counting
 split : {A : Type 0} (x : A) (l : List A) → Memᴰ x l → (a : List A) × (b : List A) × (l ≡ a ++ (x ∷ b))
-split x [] m = absurd (Memᴰ.not_nil m)
+split x [] m = absurd (Memᴰ.not-nil m)
 split x (y ∷ l) m = ⊎_elim (λ e. ([], l, ap (λ z. z ∷ l) (sym e)))
     (λ n. let s = split x l n in (y ∷ s.0, s.1, ap (λ z. y ∷ z) s.2)) (Memᴰ.cases_cons m)
 
@@ -119,19 +119,19 @@ log_length (rem x ∷ log) = omega (arith, log_length log)
 
 module _ (start : Start) where
   inserts_given : (x : ℕ) (log : Log) → Memᴰ x (inserts log) → Given start x log
-  inserts_given x [] m = absurd (Memᴰ.not_nil m)
+  inserts_given x [] m = absurd (Memᴰ.not-nil m)
   inserts_given x (ins y ∷ log) m = ⊎_elim (λ e. inr (Memᴰ.head (ap ins e)))
       (λ k. given_more start x y log (ins y) (inserts_given x log k)) (Memᴰ.cases_cons m)
   inserts_given x (rem y ∷ log) m = given_more start x y log (rem y) (inserts_given x log m)
 
   removes_removed : (x : ℕ) (log : Log) → Memᴰ x (removes log) → Removed x log
-  removes_removed x [] m = absurd (Memᴰ.not_nil m)
+  removes_removed x [] m = absurd (Memᴰ.not-nil m)
   removes_removed x (ins y ∷ log) m = Memᴰ.tail (removes_removed x log m)
   removes_removed x (rem y ∷ log) m = ⊎_elim (λ e. Memᴰ.head (ap rem e))
       (λ k. Memᴰ.tail (removes_removed x log k)) (Memᴰ.cases_cons m)
 
   removes_given : (x : ℕ) (log : Log) → Once start log → Memᴰ x (removes log) → Given start x log
-  removes_given x [] o m = absurd (Memᴰ.not_nil m)
+  removes_given x [] o m = absurd (Memᴰ.not-nil m)
   removes_given x (ins y ∷ log) o m = given_more start x y log (ins y) (removes_given x log o.1 m)
   removes_given x (rem y ∷ log) o m = given_more start x y log (rem y)
       (⊎_elim (λ e. rw e o.0) (removes_given x log o.2) (Memᴰ.cases_cons m))

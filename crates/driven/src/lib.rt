@@ -1,1 +1,2 @@
 // No code: what the library's slices hold is a register that calls reach (specs/ and proofs/).
+#![tactic(auto)]

@@ -2,6 +2,8 @@
 // In order: the words; an operation's; a phase's; a record's; what words would stand for; are they right; decoding.
 // The words of a record are decoded and encoded back unchanged; words that no record encodes to are malformed
 // (proofs/Trip.antt). Not here: where the words lie in a lent slice (crate packing). Assumes nothing.
+#![tactic(auto)]
+
 ghost use Rattle.std.specs.Prelude.{◌≡◌};
 ghost use Rattle.encoding.specs.Encoding.{
   op_words,

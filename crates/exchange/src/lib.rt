@@ -2,6 +2,8 @@
 // In order: putting an answer; writing; reading. Each call returns 0 or a refusal's number; a refusal changes nothing
 // but the answer, and an answer of another length than 3 stays as it is. No call has a `requires`.
 // Not here: the exported names (crate ffi), what a listing is (crates listing, scanning, loading). Assumes nothing.
+#![tactic(auto)]
+
 ghost use Rattle.std.specs.Prelude.{◌≡◌};
 ghost use Rattle.terms.specs.Terms.{small};
 ghost use Rattle.listing.specs.Listing.{key_room};

@@ -49,7 +49,7 @@ module _ (key : ℕ → ℕ) (f : ℕ → Option ℕ) (tail : ℕ) where
 -- ---- members and keys
 module _ (key : ℕ → ℕ) where
   pub keyed_member : (x : Keyed) (ns : List ℕ) → Memᴰ x (keyed key ns) → Memᴰ x.0 ns
-  keyed_member x [] m = absurd (Memᴰ.not_nil m)
+  keyed_member x [] m = absurd (Memᴰ.not-nil m)
   keyed_member x (n ∷ ns) m = ⊎_elim
       (λ e. Memᴰ.head (ap (λ (y : Keyed). y.0) e))
       (λ k. Memᴰ.tail (keyed_member x ns k))

@@ -26,7 +26,7 @@ module _ {A : Type 0} where
     weigh_le (x ∷ l) = omega (arith, f≤g x, weigh_le l)
 
     pub weigh_lt : (x : A) (l : List A) → Memᴰ x l → f x < g x → weigh f l < weigh g l
-    weigh_lt x [] m k = absurd (Memᴰ.not_nil m)
+    weigh_lt x [] m k = absurd (Memᴰ.not-nil m)
     weigh_lt x (y ∷ l) m k = ⊎_elim
         (λ e. omega (arith, ap f e, ap g e, weigh_le l))
         (λ n. omega (arith, f≤g y, weigh_lt x l n k))
@@ -34,7 +34,7 @@ module _ {A : Type 0} where
 
   -- ---- a member divides a list
   split : (x : A) (l : List A) → Memᴰ x l → (a : List A) × (b : List A) × (l ≡ a ++ (x ∷ b))
-  split x [] m = absurd (Memᴰ.not_nil m)
+  split x [] m = absurd (Memᴰ.not-nil m)
   split x (y ∷ l) m = ⊎_elim
       (λ e. ([], l, ap (λ z. z ∷ l) (sym e)))
       (λ n. let s = split x l n in (y ∷ s.0, s.1, ap (λ z. y ∷ z) s.2))
@@ -65,7 +65,7 @@ module _ {A : Type 0} where
 
   -- ---- rising keys
   pub rising_above : (key : A → ℕ) (p : ℕ) (x : A) (l : List A) → Rising key p l → Memᴰ x l → p < key x
-  rising_above key p x [] r m = absurd (Memᴰ.not_nil m)
+  rising_above key p x [] r m = absurd (Memᴰ.not-nil m)
   rising_above key p x (y ∷ l) r m = ⊎_elim
       (λ e. omega (arith, ap key e))
       (λ n. omega (arith, rising_above key (key y) x l r.1 n))

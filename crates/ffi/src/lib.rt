@@ -6,6 +6,8 @@
 // lengths are refused 7, words that are no record's 8. include/ravencrumb.h declares the calls.
 // Not here: the checks, answering and many steps (crate calling), a step that is no walk that moves on (crate
 // stepping), what the calls mean (crate register). Assumes nothing.
+#![tactic(auto)]
+
 ghost use Rattle.std.specs.Prelude.{◌≡◌, length};
 ghost use Rattle.terms.specs.Terms.{small};
 ghost use Rattle.listing.specs.Listing.{key_room};

@@ -1,5 +1,7 @@
 // Number, Link and Finish of both updates.
 // In order: as document 01 has them. Not here: what they mean (crate steps, specs/Steps.antt). Assumes nothing.
+#![tactic(auto)]
+
 ghost use Rattle.std.specs.Prelude.{◌≡◌};
 ghost use Rattle.steps.specs.Steps.{
   done,

@@ -1,6 +1,8 @@
 // The step that changes one session's record where it stands (document 01: "The step changes that one record where it
 // stands"). It copies the record out, takes crate register's step by value, and stores the advanced record.
 // Not here: anything that a caller without such a reference needs (crate register). Assumes nothing.
+#![tactic(auto)]
+
 ghost use Rattle.std.specs.Prelude.{◌≡◌};
 ghost use Rattle.terms.specs.Terms.{small};
 ghost use Rattle.register.specs.Register.{step_of};

@@ -3,6 +3,8 @@
 // Numbers and names are read and written by crate text alone. `print` and `print_refusal` ask for room that their
 // caller has checked.
 // Not here: what a call does, and the run over all lines (crate running). Assumes nothing.
+#![tactic(auto)]
+
 ghost use Rattle.std.specs.Prelude.{◌≡◌, ◌∷◌, [], ◌+◌, ◌≤◌, length};
 ghost use Rattle.text.specs.Text.{Puts};
 ghost use Rattle.terms.specs.Terms.{refusal_number};

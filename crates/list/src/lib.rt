@@ -1,6 +1,8 @@
 // The list steps: one step of a session, by the phase that its record has reached.
 // Not here: the checks before a step (crate register), and what a step means (crate steps, specs/Steps.antt). Assumes
 // nothing.
+#![tactic(auto)]
+
 ghost use Rattle.std.specs.Prelude.{◌≡◌, ◌<◌};
 ghost use Rattle.steps.specs.Steps.{done, act_step};
 

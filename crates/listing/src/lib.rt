@@ -2,6 +2,8 @@
 // In order: the answer; one line; a pair; pairs; the parts; sizes; the pairs that may be written; writing.
 // Not here: reading (the crate above). Every byte goes straight to its place, and no scratch row is made.
 // The writers of parts ask for room, which `write` has checked; `write` itself asks for nothing.
+#![tactic(auto)]
+
 ghost use Rattle.std.specs.Prelude.{◌≡◌, ◌+◌, ◌≤◌, length};
 ghost use Rattle.text.specs.Text.{Puts};
 ghost use Rattle.listing.specs.Listing.{field_of, pair_of, pairs, head_of, body_of, listing_of};

@@ -2,6 +2,8 @@
 // In order: reading and writing back; loading; tables of other lengths; files.
 // Not here: what is expected (stdout), the files (data/). Each line says what a call answered, by document 01's
 // numbers; the tables lent are all 7, and `words` counts every word of them afterwards.
+#![tactic(auto)]
+
 use listing::Written;
 use loading::Loaded;
 use scanning::Reading;

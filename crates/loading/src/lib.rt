@@ -2,6 +2,8 @@
 // In order: the answer; one key more; all keys; loading.
 // Not here: fresh tables (crate register), the steps of an insert (crate steps). The input is checked and its numbers
 // are gathered before the first word of a table changes, so that a refusal changes nothing. Assumes nothing.
+#![tactic(auto)]
+
 ghost use Rattle.std.specs.Prelude.{◌≡◌, true, ◌+◌, ◌≤◌, ◌<◌, length};
 ghost use Rattle.terms.specs.Terms.{small};
 ghost use Rattle.steps.specs.Steps.{tables};

@@ -1,6 +1,8 @@
 // Lock and Check of both updates: what they do to the node table.
 // In order: Lock; an insert's Check; a remove's Check. Not here: what they mean (crate steps, specs/Steps.antt).
 // Assumes nothing.
+#![tactic(auto)]
+
 ghost use Rattle.std.specs.Prelude.{◌≡◌, ◌<◌};
 ghost use Rattle.steps.specs.Steps.{
   moved,

@@ -2,6 +2,8 @@
 // In order: where each word stands; reading one and storing one; unlocking; a new node.
 // Not here: which node is whose, and the table's length (the list's). Every function is total, on any content of the
 // table (crate table). Assumes nothing.
+#![tactic(auto)]
+
 ghost use Rattle.std.specs.Prelude.{◌≡◌};
 ghost use Rattle.nodes.specs.Nodes.{node_at, put_node, unlocked, unlocked_both, named_node, clear_node, new_node};
 

@@ -3,6 +3,8 @@
 // In order: where a session is; walking on; the key that Follow leads to; handing out; how far a session gets.
 // These are the steps of document 01 one after the other (crate several proves it); what does not go on is left to the
 // step itself. Not here: the steps (crate steps). Assumes nothing.
+#![tactic(auto)]
+
 ghost use Rattle.std.specs.Prelude.{◌≡◌, ◌-◌, ◌≤◌, ◌<◌};
 ghost use Rattle.terms.specs.Terms.{small, sought_of, high_of};
 ghost use Rattle.onward.specs.Onward.{

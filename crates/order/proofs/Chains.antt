@@ -21,7 +21,7 @@ last p (n ∷ ns) = last n ns
 -- a node of a list divides it
 pub divide : (x p : ℕ) (ns : List ℕ) → Memᴰ x (p ∷ ns) →
     (A : List ℕ) × (B : List ℕ) × (ns ≡ A ++ B) × (last p A ≡ x)
-divide x p [] m = ([], [], refl, ⊎_elim sym (λ k. absurd (Memᴰ.not_nil k)) (Memᴰ.cases_cons m))
+divide x p [] m = ([], [], refl, ⊎_elim sym (λ k. absurd (Memᴰ.not-nil k)) (Memᴰ.cases_cons m))
 divide x p (n ∷ ns) m = ⊎_elim
     (λ e. ([], n ∷ ns, refl, sym e))
     (λ k. let r = divide x n ns k in (n ∷ r.0, r.1, ap (λ l. n ∷ l) r.2, r.3))
@@ -83,18 +83,18 @@ module _ (key : ℕ → ℕ) (f : ℕ → Option ℕ) where
   to_tail p (n ∷ ns) c = omega (arith, to_tail n ns c.2)
 
   pub above_start : (p x : ℕ) (ns : List ℕ) → Chain key f p ns → Memᴰ x ns → key p < key x
-  above_start p x [] c m = absurd (Memᴰ.not_nil m)
+  above_start p x [] c m = absurd (Memᴰ.not-nil m)
   above_start p x (n ∷ ns) c m = ⊎_elim
       (λ e. omega (arith, ap key e)) (λ k. omega (arith, above_start n x ns c.2 k)) (Memᴰ.cases_cons m)
 
   pub below_last : (p x : ℕ) (ns : List ℕ) → Chain key f p ns → Memᴰ x ns → key x ≤ key (last p ns)
-  below_last p x [] c m = absurd (Memᴰ.not_nil m)
+  below_last p x [] c m = absurd (Memᴰ.not-nil m)
   below_last p x (n ∷ ns) c m = ⊎_elim
       (λ e. omega (arith, ap key e, chain_last n ns c.2)) (below_last n x ns c.2) (Memᴰ.cases_cons m)
 
   -- a node is told by its key
   pub by_key : (p x y : ℕ) (ns : List ℕ) → Chain key f p ns → Memᴰ x ns → Memᴰ y ns → key x ≡ key y → x ≡ y
-  by_key p x y [] c m k e = absurd (Memᴰ.not_nil m)
+  by_key p x y [] c m k e = absurd (Memᴰ.not-nil m)
   by_key p x y (n ∷ ns) c m k e = ⊎_elim
       (λ x≡n. ⊎_elim (λ y≡n. x≡n ∙ sym y≡n)
       (λ b. absurd (omega (arith, ap key x≡n, above_start n y ns c.2 b))) (Memᴰ.cases_cons k))

@@ -80,8 +80,8 @@ snap_begins : (key : ℕ → ℕ) (start : Start) (s : ℕ) → InOrder key star
 unfolding members look
 snap_begins key start s in_order base≤s = record {
   walk = linked_chain key start.base s head (start.loaded ++ (tail ∷ [])) base≤s in_order;
-  gone = λ x removed. absurd (Memᴰ.not_nil removed);
-  kept = λ x given. ⊎_elim inl (λ m. absurd (Memᴰ.not_nil m)) given;
+  gone = λ x removed. absurd (Memᴰ.not-nil removed);
+  kept = λ x given. ⊎_elim inl (λ m. absurd (Memᴰ.not-nil m)) given;
   fresh = λ x x≢head out. ap (look s) (linked_out start.base head x start.loaded x≢head (λ m. out (inl m)));
 }
 

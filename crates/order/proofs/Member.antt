@@ -40,7 +40,7 @@ module _ {A : Type 0} (key : A → ℕ) where
 
   pub member_mem : (x : A) (l : List A) → Memᴰ x l → member key (key x) l ≡ true
   unfolding member
-  member_mem x [] m = absurd (Memᴰ.not_nil m)
+  member_mem x [] m = absurd (Memᴰ.not-nil m)
   member_mem x (y ∷ l) m =
       eqb_cases (λ t. t ≡ true) (key y) (key x) _ _ (λ _. refl)
       (λ y≢x. ⊎_elim (λ e. absurd (y≢x (sym (ap key e)))) (member_mem x l) (Memᴰ.cases_cons m))

@@ -96,7 +96,7 @@ module _ {A : Type 0} (key : A → ℕ) where
   over_rises b (x ∷ l) over = over.1
 
   pub over_mem : (b : ℕ) (l : List A) (x : A) → Over key b l → Memᴰ x l → b < key x
-  over_mem b [] x over m = absurd (Memᴰ.not_nil m)
+  over_mem b [] x over m = absurd (Memᴰ.not-nil m)
   over_mem b (y ∷ l) x over m = ⊎_elim
       (λ e. omega (arith, ap key e)) (λ n. omega (arith, over_mem (key y) l x over.1 n)) (Memᴰ.cases_cons m)
 

@@ -8,13 +8,13 @@ use Rattle.order.specs.Shape.{Numbers, nothing, an_insert, a_remove, Shape, Hold
 use Rattle.order.specs.Shape.{gone_on}
 use Rattle.order.proofs.Keeps.{history_begins, history_insert, history_remove}
 
-pub numbers_keep : {key : ℕ → ℕ} {start : Start} {rows rows' : ℕ → Row} {log log' : Log}
+pub numbers_keep : {key : ℕ → ℕ} {start : Start} {rows : ℕ → Row} {log : Log} {rows' : ℕ → Row} {log' : Log}
     → History key start rows log → Numbers key start rows log rows' log' → History key start rows' log'
 numbers_keep H nothing = H
-numbers_keep {key} {start} {rows} {rows'} {log} {log'} H (an_insert pred curr new may) =
+numbers_keep {key} {start} {rows} {log} {rows'} {log'} H (an_insert pred curr new may) =
     history_insert key start rows log H pred curr new may.pred_in may.leads may.above_pred may.below_curr
     may.unlinked
-numbers_keep {key} {start} {rows} {rows'} {log} {log'} H (a_remove pred curr succ may) =
+numbers_keep {key} {start} {rows} {log} {rows'} {log'} H (a_remove pred curr succ may) =
     history_remove key start rows log H pred curr succ may.pred_in may.leads may.curr_in may.leads_on
 
 -- ---- the history is carried on here and nowhere else

@@ -44,7 +44,7 @@ dec_task low high (some (range l h)) = elim (ℕ_discrete l low) [
 ]
 
 mem_length : (x : ℕ) (l : List ℕ) → Memᴰ x l → 0 < length l
-mem_length x [] k = absurd (Memᴰ.not_nil k)
+mem_length x [] k = absurd (Memᴰ.not-nil k)
 mem_length x (y ∷ l) k = omega arith
 
 module _ {State Call : Type 0} (go : State → Call → State) (who : State → Call → Option ℕ) (Good : State → Type 0)

@@ -4,6 +4,8 @@
 // encoding says which). An answer is three words: its name and its two values. Everything is total: what lies past a
 // slice's end reads as 0.
 // Not here: the lengths that a call asks for (crate ffi). Assumes nothing.
+#![tactic(auto)]
+
 ghost use Rattle.std.specs.Prelude.{◌≡◌};
 ghost use Rattle.terms.specs.Terms.{refusal_number};
 ghost use Rattle.packing.specs.Packing.{

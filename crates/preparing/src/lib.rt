@@ -1,6 +1,8 @@
 // Prepare of both updates: the wait, the counters, and the two pending entries.
 // In order: is a newest entry pending; laying an entry in a node's bundle; an insert's Prepare; a remove's Prepare.
 // Not here: what they mean (crate steps, specs/Steps.antt). Assumes nothing.
+#![tactic(auto)]
+
 ghost use Rattle.std.specs.Prelude.{◌≡◌, ◌+◌, ◌<◌, ◌≤◌};
 ghost use Rattle.steps.specs.Steps.{
   done,

@@ -1,5 +1,7 @@
 // The steps that write nothing: Walk, has's Follow by the newest link, and a range's Fix, Follow and Hand.
 // In order: as document 01 has them. Not here: what they mean (crate steps, specs/Steps.antt). Assumes nothing.
+#![tactic(auto)]
+
 ghost use Rattle.std.specs.Prelude.{◌≡◌};
 ghost use Rattle.steps.specs.Steps.{walk_step, has_sees, newest_step, fix_step, range_sees, follow_step, hand_step};
 

@@ -3,6 +3,8 @@
 // In order: what the calls return; the tables' lengths; fresh; start; step; the call over sixteen records. No call
 // has a `requires`: bad tables, sessions, keys, ranges and contents are refused by number (document 01).
 // Not here: the step through a reference to the record (crate inplace), listings (crate listing). Assumes nothing.
+#![tactic(auto)]
+
 ghost use Rattle.std.specs.Prelude.{◌≡◌};
 ghost use Rattle.terms.specs.Terms.{small};
 ghost use Rattle.steps.specs.Steps.{done};

@@ -4,6 +4,8 @@
 // the run.
 // The sixteen records stay where they are in `serve_lines`: each line takes one out and puts one back.
 // Not here: lines and answers (crate lines), reading and writing files (crates runner and cases). Assumes nothing.
+#![tactic(auto)]
+
 ghost use Rattle.std.specs.Prelude.{◌≡◌, ◌+◌, ◌*◌, ◌≤◌, length};
 ghost use Rattle.text.specs.Text.{lines_of};
 ghost use Rattle.terms.specs.Terms.{small};

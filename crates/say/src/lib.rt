@@ -1,6 +1,7 @@
 // Lines of names and numbers on standard output, for the programs that run cases.
 // In order: a number; lines of one, two and three.
 // Not here: the runner's answers (the runner's). No contract can say what is written.
+#![tactic(auto)]
 
 // Writes n.
 fn number(n: u64) {

@@ -3,6 +3,8 @@
 // Not here: a register made of them (the crate above). The whole input is checked before the first write, so that a
 // refusal changes nothing. A line's name decides by what is to come: another edition, or a line that is only
 // tried, is one more case of `step`.
+#![tactic(auto)]
+
 ghost use Rattle.std.specs.Prelude.{◌≡◌, ◌≤◌};
 ghost use Rattle.std.proofs.lemmas.List.Edits.{sets};
 ghost use Rattle.text.specs.Text.{lines_of, Puts};

@@ -2,6 +2,8 @@
 // In order: writing the answers; the file.
 // No contract can say what is read or written; the whole work is `running::run`, which has one.
 // Not here: which file (crates runner and cases). Assumes nothing.
+#![tactic(auto)]
+
 use running::Ended;
 
 fn emit(out: &[u8], k: usize) {

@@ -2,6 +2,8 @@
 // In order: what a call returns; the pairs handed out; whether the call goes on; one step; as far as
 // it gets and one step; the steps.
 // Not here: the step (crate register), the words of records and answers (crate ffi). Assumes nothing.
+#![tactic(auto)]
+
 ghost use Rattle.std.specs.Prelude.{◌≡◌, ◌-◌, ◌≤◌, ◌<◌};
 ghost use Rattle.terms.specs.Terms.{small};
 ghost use Rattle.several.specs.Several.{

@@ -5,6 +5,8 @@
 // says Long: the step is then the register's, on the record decoded. proofs/Agrees.antt has that what a short way
 // tells is that step's outcome. What is told is small, so that compiled code keeps it in registers.
 // Not here: the register's step (crate register), storing the words and the answer (crate stepping). Assumes nothing.
+#![tactic(auto)]
+
 ghost use Rattle.std.specs.Prelude.{◌≡◌};
 ghost use Rattle.terms.specs.Terms.{small};
 ghost use Rattle.shortly.specs.Shortly.{

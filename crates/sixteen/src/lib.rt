@@ -2,6 +2,8 @@
 // In order: the register and its calls; one record out of sixteen; fresh; start; step; any call.
 // A loop that is to be fast keeps the sixteen records in a local of its own and calls crate register with one of them.
 // Not here: what the calls mean (crate register). Assumes nothing.
+#![tactic(auto)]
+
 ghost use Rattle.std.specs.Prelude.{◌≡◌, set};
 ghost use Rattle.terms.specs.Terms.{small};
 ghost use Rattle.sixteen.specs.Sixteen.{

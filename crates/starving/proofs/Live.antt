@@ -230,7 +230,7 @@ module _ (key val : ℕ → ℕ) where
         shown = S;
         nodes = [];
         listed = listed_beginning key val empty (omega (arith, S.head_key, S.tail_key_lem), tt);
-        no_head = Memᴰ.not_nil;
+        no_head = Memᴰ.not-nil;
       }
   reached_live (on {σ} {h} r c words) agrees =
       (next (reached_live r (agree_back small key val σ c agrees)) c words agrees).live

@@ -4,6 +4,8 @@
 // way leads, the step is one of many (crate calling), on the record decoded.
 // Not here: the step for C, and a walk that moves on (crate ffi), what the short ways test (their crates). Assumes
 // nothing.
+#![tactic(auto)]
+
 ghost use Rattle.std.specs.Prelude.{◌≡◌};
 ghost use Rattle.terms.specs.Terms.{small};
 ghost use Rattle.steps.specs.Steps.{idle};

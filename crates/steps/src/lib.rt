@@ -2,6 +2,8 @@
 // In order: phases and records; what a step returns; where a walk and a lock lead; whether a session is busy.
 // Not here: the phases' own functions (crates reading, locking, preparing, finishing). specs/Steps.antt defines every
 // step. Assumes nothing.
+#![tactic(auto)]
+
 ghost use Rattle.std.specs.Prelude.{◌≡◌};
 ghost use Rattle.steps.specs.Steps.{
   idle,

@@ -2,6 +2,8 @@
 // In order: reading a word; storing one; clearing all. The first two are total: past the table's end a word reads as
 // 0 and a store changes nothing,
 // so that callers owe nothing on any content. Not here: what the words mean. Assumes nothing.
+#![tactic(auto)]
+
 ghost use Rattle.std.specs.Prelude.{◌≡◌};
 ghost use Rattle.table.specs.Table.{word_of, store_of, clear_of};
 

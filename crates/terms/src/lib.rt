@@ -1,6 +1,8 @@
 // What callers and every shape of the register speak of: sizes, counters, operations, answers and refusals.
 // In order: sizes and counters; operations, and the numbers in them; answers and refusals.
 // Not here: the phases of an operation, which are a shape's own. Assumes nothing.
+#![tactic(auto)]
+
 ghost use Rattle.std.specs.Prelude.{◌≡◌};
 ghost use Rattle.terms.specs.Terms.{small, sought_of, high_of, value_of, removes_of, names_of, out_of_bounds};
 

@@ -4,6 +4,8 @@
 // Not here: names and the order of lines. Every answer is an equation with a definition of specs/Text.antt.
 // `put_number` and `put_bytes` ask for room, and `line_end` for a place within: they are parts of callers that have
 // checked it.
+#![tactic(auto)]
+
 ghost use Rattle.std.specs.Prelude.{◌≡◌, ◌+◌, ◌≤◌, length, drop};
 ghost use Rattle.text.specs.Text.{class_of, ends, with_digit, grow, number_in, digits, Puts};
 ghost use Rattle.text.specs.Text.{seen, lines_of, line_length, starts_with, field_in};

@@ -168,11 +168,11 @@ unfolding fresh_entries
 first_entry es whole =
     let cleared : length (clear_of es) ≡ small.entries * 4 = clear_length es ∙ whole in
     finish_front small.entries (lay_of (clear_of es) 0 1 0 0) 0 0 [] 0 1 [] 1
-    (lay_length (clear_of es) 0 1 0 0 ∙ cleared) Memᴰ.not_nil
-    (lay_front small.entries (clear_of es) 0 1 0 [] [] 0 cleared (omega arith) Memᴰ.not_nil refl)
+    (lay_length (clear_of es) 0 1 0 0 ∙ cleared) Memᴰ.not-nil
+    (lay_front small.entries (clear_of es) 0 1 0 [] [] 0 cleared (omega arith) Memᴰ.not-nil refl)
 
 own_head : (x e : ℕ) → Memᴰ e (first_own x) → x ≡ 0
-own_head x e = eqb_cases (λ l. Memᴰ e l → x ≡ 0) x 0 (0 ∷ []) [] (λ z _. z) (λ _ m. absurd (Memᴰ.not_nil m))
+own_head x e = eqb_cases (λ l. Memᴰ e l → x ≡ 0) x 0 (0 ∷ []) [] (λ z _. z) (λ _ m. absurd (Memᴰ.not-nil m))
 
 fresh_rows : (ns es : List ℕ) → length ns ≡ small.nodes * 6 → length es ≡ small.entries * 4
     → Rows small.entries 2 1 (fresh_nodes ns) (fresh_entries es) first_own (beginning empty)
@@ -214,8 +214,8 @@ fresh_is ns es nodes entries key val A =
       cuts = record {
         cuts = [];
         once = tt;
-        in_use = λ x m. absurd (Memᴰ.not_nil m);
-        cut = λ x m. absurd (Memᴰ.not_nil m);
+        in_use = λ x m. absurd (Memᴰ.not-nil m);
+        cut = λ x m. absurd (Memᴰ.not-nil m);
         count = refl;
       };
       tells = record { updates = refl; under = λ t. refl; since = λ t. refl; handed = λ t. tt };

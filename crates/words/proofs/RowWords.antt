@@ -21,7 +21,7 @@ use Rattle.words.proofs.Show.{Sinks, Rows, Newest}
 
 -- ---- strictly falling entry numbers
 pub sinks_below : (b : ℕ) (own : List ℕ) (e : ℕ) → Sinks b own → Memᴰ e own → e < b
-sinks_below b [] e s i = absurd (Memᴰ.not_nil i)
+sinks_below b [] e s i = absurd (Memᴰ.not-nil i)
 sinks_below b (d ∷ own) e s i =
     ⊎_elim (λ z. omega (arith, z, s.0)) (λ j. omega (arith, s.0, sinks_below d own e s.1 j))
     (Memᴰ.cases_cons i)
@@ -66,7 +66,7 @@ module _ (size used laid : ℕ) (ns es : List ℕ) (own : ℕ → List ℕ) (m :
   -- ---- one node more, with an empty row
   new_own : (x e : ℕ) → x < used + 1 → Memᴰ e (change own used [] x) → (x < used) × Memᴰ e (own x)
   new_own x e h = change_cases (λ o. Memᴰ e o → (x < used) × Memᴰ e (own x)) own used [] x
-      (λ _ i. absurd (Memᴰ.not_nil i)) (λ d i. (omega arith, i))
+      (λ _ i. absurd (Memᴰ.not-nil i)) (λ d i. (omega arith, i))
 
   new_shows : (ns' : List ℕ) → newest_at ns' used ≡ 0 → ((x : ℕ) → x ≢ used → newest_at ns' x ≡ newest_at ns x)
       → (x : ℕ) → x < used + 1 → Shows size es (shown (m.bundle x)) (change own used [] x) (newest_at ns' x)

@@ -1,1 +1,2 @@
 // That the words of a reached register show a drawing, and step as it does: proofs alone.
+#![tactic(auto)]

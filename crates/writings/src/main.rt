@@ -1,6 +1,8 @@
 // Cases of writing a listing: into 80 bytes that are all 35, and of as many keys as there may be.
 // In order: what was answered; writing into a part of 80 bytes; many keys; the cases.
 // Not here: what is expected (stdout). Each line says what a call answered, by document 01's numbers.
+#![tactic(auto)]
+
 use listing::Written;
 
 fn show_written(w: Written) {

@@ -19,8 +19,8 @@ at_measure t = and 0 kinds.ps (is 0 kinds.ps μ t) width.Pre
 abbrev below : ℕ → In 0 kinds.ps
 below t = and 0 kinds.ps (falls 0 kinds.ps ◌<◌ μ t) width.Pre
 
-pub +width-spec : {M : Type 1} → statement M
-+width-spec =
+pub +width_spec : {M : Type 1} → statement M
++width_spec =
     close μ λ t. lts.spec (below t, width.Post) (at_measure t) width.Post
     (λ c. search digits_wide)
     (λ c κs. (omega arith, tt))

@@ -8,10 +8,10 @@ use Rattle.text.proofs.Lines.{line_ended}
 use Rattle.text.proofs.line_end.Statement.{statement}
 use Rattle.text.proofs.line_end.Tie as tie
 
-abbrev invariant-loop : tie.invariant-loop
+abbrev invariant-loop : tie.invariant-loop-i
 invariant-loop s place i₀ i = (i ≤ length s) × (place + line_length (drop place s) ≡ i + line_length (drop i s))
 
-abbrev decreases-loop : tie.decreases-loop
+abbrev decreases-loop : tie.decreases-loop-i
 decreases-loop s place i₀ i = length s - i
 
 pub line_end_spec : {M : Type 1} → statement M

@@ -8,11 +8,11 @@ use Rattle.text.proofs.Lines.{bytes_put}
 use Rattle.text.proofs.put_bytes.Statement.{statement}
 use Rattle.text.proofs.put_bytes.Tie as tie
 
-abbrev invariant-loop : tie.invariant-loop
+abbrev invariant-loop : tie.invariant-loop-i
 invariant-loop out₀ place s i₀ out i =
     (i ≤ length s) × (length out ≡ length out₀) × (sets out₀ place s ≡ sets out (place + i) (drop i s))
 
-abbrev decreases-loop : tie.decreases-loop
+abbrev decreases-loop : tie.decreases-loop-i
 decreases-loop out₀ place s i₀ out i = length s - i
 
 pub put_bytes_spec : {M : Type 1} → statement M

@@ -9,10 +9,10 @@ use Rattle.text.proofs.Read.{number_read}
 use Rattle.text.proofs.read_number.Statement.{statement}
 use Rattle.text.proofs.read_number.Tie as tie
 
-abbrev invariant-loop : tie.invariant-loop
+abbrev invariant-loop : tie.invariant-loop-i
 invariant-loop s n₀ i₀ n i = (i ≤ length s) × (grows Partial.Empty s ≡ grows n (drop i s))
 
-abbrev decreases-loop : tie.decreases-loop
+abbrev decreases-loop : tie.decreases-loop-i
 decreases-loop s n₀ i₀ n i = length s - i
 
 pub read_number_spec : {M : Type 1} → statement M

@@ -8,10 +8,10 @@ use Rattle.text.proofs.Lines.{named}
 use Rattle.text.proofs.starts.Statement.{statement}
 use Rattle.text.proofs.starts.Tie as tie
 
-abbrev invariant-loop : tie.invariant-loop
+abbrev invariant-loop : tie.invariant-loop-i
 invariant-loop s name i₀ i = (i ≤ length name) × (starts_with name s ≡ starts_with (drop i name) (drop i s))
 
-abbrev decreases-loop : tie.decreases-loop
+abbrev decreases-loop : tie.decreases-loop-i
 decreases-loop s name i₀ i = length name - i
 
 pub starts_spec : {M : Type 1} → statement M
