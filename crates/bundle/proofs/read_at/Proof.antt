@@ -8,11 +8,11 @@ use Rattle.bundle.specs.Bundle.{scan_of}
 use Rattle.bundle.proofs.read_at.Statement.{statement}
 use Rattle.bundle.proofs.read_at.Tie as tie
 
-abbrev invariant-loop : tie.invariant-loop
+abbrev invariant-loop : tie.invariant-loop-left
 invariant-loop entries size newest s link₀ left₀ link left =
     (left ≤ size) × (scan_of size size entries newest s ≡ scan_of left size entries link s)
 
-abbrev decreases-loop : tie.decreases-loop
+abbrev decreases-loop : tie.decreases-loop-left
 decreases-loop entries size newest s link₀ left₀ link left = left
 
 pub read_at_spec : {M : Type 1} → statement M
