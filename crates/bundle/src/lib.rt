@@ -9,7 +9,7 @@ ghost use Rattle.std.specs.Prelude.{◌≡◌};
 ghost use Rattle.bundle.specs.Bundle.{word_at, put_at, look_of, holds_up, at_of, newest_of, held_of, lay_of, finish_of};
 
 // What a reader of a row is told.
-#[derive(Drop)]
+#[derive(Clone, Copy)]
 pub enum Read {
     Wait,
     Take(u32),
@@ -17,7 +17,7 @@ pub enum Read {
 }
 
 // What one who would lay is told of the newest entry.
-#[derive(Drop)]
+#[derive(Clone, Copy)]
 pub enum Held {
     Free,
     Wait,
@@ -25,7 +25,7 @@ pub enum Held {
 }
 
 // One entry of a scan: taken, passed for the older one, or no entry at all.
-#[derive(Drop)]
+#[derive(Clone, Copy)]
 pub enum Look {
     Taken(u32),
     Passed(u32),

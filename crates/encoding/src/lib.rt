@@ -26,7 +26,7 @@ use steps::{Phase, Session};
 use terms::Op;
 
 // An operation: its kind and its two numbers.
-#[derive(Drop)]
+#[derive(Clone, Copy)]
 pub struct OpWords {
     pub kind: u32,
     pub first: u32,
@@ -34,7 +34,7 @@ pub struct OpWords {
 }
 
 // A phase: its number in document 01's order, and its own five numbers.
-#[derive(Drop)]
+#[derive(Clone, Copy)]
 pub struct PhaseWords {
     pub phase: u32,
     pub a: u32,
@@ -44,13 +44,13 @@ pub struct PhaseWords {
     pub e: u32,
 }
 
-#[derive(Drop)]
+#[derive(Clone, Copy)]
 pub struct Words {
     pub op: OpWords,
     pub phase: PhaseWords,
 }
 
-#[derive(Drop)]
+#[derive(Clone, Copy)]
 pub enum Decoded {
     Record(Session),
     Malformed,

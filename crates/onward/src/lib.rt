@@ -31,7 +31,7 @@ use steps::{Phase, Session};
 use terms::Op;
 
 // Walking, or handing out: the two that go on for many steps.
-#[derive(Drop)]
+#[derive(Clone, Copy)]
 pub enum Course {
     Walks(u32, u32),
     Follows(u32, u32, u32),
@@ -62,7 +62,7 @@ fn heading(phase: Phase) -> Course
     }
 }
 
-#[derive(Drop)]
+#[derive(Clone, Copy)]
 pub struct Walked {
     pub pred: u32,
     pub curr: u32,
@@ -105,7 +105,7 @@ fn walk_on(nodes: &[u32], sought: u32, from: u32, to: u32, made: u32, most: u32)
 }
 
 // A node in range that Follow leads to.
-#[derive(Drop)]
+#[derive(Clone, Copy)]
 pub enum Found {
     At(u32),
     None,
@@ -158,7 +158,7 @@ pub fn put_pair(pairs: &mut [u32], count: u32, key: u32, value: u32)
     table::store(pairs, 2, count, 1, value);
 }
 
-#[derive(Drop)]
+#[derive(Clone, Copy)]
 pub struct Handing {
     pub at: u32,
     pub handed: u32,
@@ -249,7 +249,7 @@ fn hand_on(
 }
 
 // A session's record on its way, how many pairs are filled and how many steps are made.
-#[derive(Drop)]
+#[derive(Clone, Copy)]
 pub struct Far {
     pub session: Session,
     pub count: u32,

@@ -41,7 +41,7 @@ pub const B: u32 = 8;
 pub const C: u32 = 9;
 
 // An answer's name and values, as numbers.
-#[derive(Drop)]
+#[derive(Clone, Copy)]
 pub struct Reply {
     pub name: u32,
     pub first: u32,

@@ -26,14 +26,14 @@ use steps::{Phase, Session, Stepped};
 use terms::{Answer, Counters, Op, Refusal, Size};
 
 // What a start returns: the session's record afterwards, and the answer.
-#[derive(Drop)]
+#[derive(Clone, Copy)]
 pub struct Started {
     pub session: Session,
     pub answer: Answer,
 }
 
 // What fresh returns: the counters of the register that the tables now hold, or the refusal.
-#[derive(Drop)]
+#[derive(Clone, Copy)]
 pub enum Opened {
     Ready(Counters),
     Refused(Refusal),

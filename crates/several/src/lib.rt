@@ -22,7 +22,7 @@ use steps::Session;
 use terms::{Answer, Counters};
 
 // What a step left beside the tables; how many pairs are filled; whether the call goes on after it.
-#[derive(Drop)]
+#[derive(Clone, Copy)]
 pub struct Turn {
     pub counters: Counters,
     pub session: Session,
@@ -32,14 +32,14 @@ pub struct Turn {
 }
 
 // The last step of a call, and how many it made.
-#[derive(Drop)]
+#[derive(Clone, Copy)]
 pub struct Went {
     pub last: Turn,
     pub made: u32,
 }
 
 // What matters of an answer to the call: whether it goes on.
-#[derive(Drop)]
+#[derive(Clone, Copy)]
 pub enum Said {
     Working,
     Key(u32, u32),

@@ -24,7 +24,7 @@ use encoding::{OpWords, PhaseWords, Words};
 use nodes::{KEY, NEWEST, NEXT, VALUE};
 
 // A walk moves on: curr is pred now, and this node is curr.
-#[derive(Drop)]
+#[derive(Clone, Copy)]
 pub enum Walked {
     On(u32),
     Long,
@@ -32,7 +32,7 @@ pub enum Walked {
 
 // A range is led on: the next phase's number, and its node. Or it hands out: how many keys it then has handed out, and
 // the key with its value.
-#[derive(Drop)]
+#[derive(Clone, Copy)]
 pub enum Ranged {
     Leads(u32, u32),
     Hands(u32, u32, u32),

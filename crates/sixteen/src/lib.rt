@@ -18,20 +18,20 @@ ghost use Rattle.sixteen.specs.Sixteen.{
 use steps::Session;
 use terms::{Answer, Counters, Op};
 
-#[derive(Drop)]
+#[derive(Clone, Copy)]
 pub struct Register {
     pub counters: Counters,
     pub sessions: [Session; 16],
 }
 
 // A call for a session: start an operation, or step.
-#[derive(Drop)]
+#[derive(Clone, Copy)]
 pub enum Call {
     Start(u32, Op),
     Step(u32),
 }
 
-#[derive(Drop)]
+#[derive(Clone, Copy)]
 pub struct Served {
     pub register: Register,
     pub answer: Answer,

@@ -22,7 +22,7 @@ use terms::{Answer, Counters, Op, Refusal};
 
 // Each phase with its own numbers. Past Prepare: `node` is the new node of an insert or the removed node of a remove,
 // and `lower` and `upper` are the entries laid in pred and in it.
-#[derive(Drop)]
+#[derive(Clone, Copy)]
 pub enum Phase {
     Idle,
     Walk {
@@ -84,14 +84,14 @@ pub enum Phase {
 }
 
 // A session's record: which operation it runs, and which phase it has reached.
-#[derive(Drop)]
+#[derive(Clone, Copy)]
 pub struct Session {
     pub op: Op,
     pub phase: Phase,
 }
 
 // What a step returns beside the tables: the counters, the session's record afterwards, and the answer.
-#[derive(Drop)]
+#[derive(Clone, Copy)]
 pub struct Stepped {
     pub counters: Counters,
     pub session: Session,

@@ -7,7 +7,7 @@ ghost use Rattle.std.specs.Prelude.{◌≡◌};
 ghost use Rattle.terms.specs.Terms.{small, sought_of, high_of, value_of, removes_of, names_of, out_of_bounds};
 
 // How much the tables hold: nodes (head and tail included), entries, keys, and the updates that those allow.
-#[derive(Drop)]
+#[derive(Clone, Copy)]
 pub struct Size {
     pub nodes: u32,
     pub entries: u32,
@@ -16,7 +16,7 @@ pub struct Size {
 }
 
 // How much of them is used, and the stamp.
-#[derive(Drop)]
+#[derive(Clone, Copy)]
 pub struct Counters {
     pub nodes: u32,
     pub entries: u32,
@@ -24,7 +24,7 @@ pub struct Counters {
 }
 
 // Insert a key with a value, remove a key, has a key, range from low to high.
-#[derive(Drop)]
+#[derive(Clone, Copy)]
 pub enum Op {
     None,
     Insert(u32, u32),
@@ -33,7 +33,7 @@ pub enum Op {
     Range(u32, u32),
 }
 
-#[derive(Drop)]
+#[derive(Clone, Copy)]
 pub enum Refusal {
     BadSession,
     Busy,
@@ -46,7 +46,7 @@ pub enum Refusal {
 }
 
 // Key: a key and its value. Inserted, Removed: the update's number. End: the snapshot, and the keys handed out.
-#[derive(Drop)]
+#[derive(Clone, Copy)]
 pub enum Answer {
     Started,
     Working,
