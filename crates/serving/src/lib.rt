@@ -4,15 +4,21 @@
 // Not here: which file (crates runner and cases). Assumes nothing.
 #![tactic(auto)]
 
+ghost use Rattle.std.specs.Prelude.{◌<◌, length, take, IfOk};
 ghost use Rattle.std.specs.Io.{ReadsAtMost};
+ghost use Rattle.std.specs.Io.KnownBytes.{Consumes, IsAtEnd};
 
 use running::Ended;
 use std::io;
 use std::io::{Read, Write};
 
-// Reads until buf is full or the input ends, and returns how many bytes it put at the start of buf.
+// Reads until buf is full or the input ends, and returns how many bytes it put at the start of buf. Where a read fails,
+// nothing is said of what was read before it.
 pub fn read_full<R: Read>(source: &mut R, buf: &mut [u8]) -> io::Result<usize>
-    ensures { ReadsAtMost result buf.new }
+    ensures bound { ReadsAtMost result buf.new }
+    ensures bytes { IfOk result (λ n. Consumes (R.remaining source.old) (R.remaining source.new)
+        (take n buf.new)) }
+    ensures end { IfOk result (λ n. n < length buf.old → IsAtEnd (R.remaining source.new)) }
 {
     let mut done = 0;
     while done < buf.len() {
