@@ -89,12 +89,7 @@ fn show_loaded(rt: &impl Print, r: Loaded) -> io::Result<()> {
     }
 }
 
-fn loads(
-    rt: &impl Print,
-    input: &[u8],
-    nodes: &mut [u32],
-    entries: &mut [u32],
-) -> io::Result<()> {
+fn loads(rt: &impl Print, input: &[u8], nodes: &mut [u32], entries: &mut [u32]) -> io::Result<()> {
     let r = loading::load(input, nodes, entries);
     show_loaded(rt, r)?;
     say::two(rt, b"words=", sum(nodes), sum(entries))
