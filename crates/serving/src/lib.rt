@@ -1,12 +1,14 @@
 // Input served: its lines are run from a fresh register, and the answers are written.
 // In order: reading a whole input; writing the answers; the input served.
-// The whole work is `running::run`, whose contract says which bytes the answers are.
-// Not here: which file (crates runner and cases). Assumes nothing.
+// specs/Serving.antt says which bytes the answers to an input are. Where a reader or a writer is not known to a contract
+// (a file, standard input and output), a contract can say nothing of its bytes.
+// Not here: the work (crate running), which file (crates runner and cases). Assumes nothing.
 #![tactic(auto)]
 
-ghost use Rattle.std.specs.Prelude.{◌<◌, length, take, IfOk};
+ghost use Rattle.std.specs.Prelude.{ℕ, ◌<◌, List, length, take, IfOk, OnOk, IfSome};
 ghost use Rattle.std.specs.Io.{ReadsAtMost};
-ghost use Rattle.std.specs.Io.KnownBytes.{Consumes, IsAtEnd};
+ghost use Rattle.std.specs.Io.KnownBytes.{Consumes, Appends, IsAtEnd};
+ghost use Rattle.serving.specs.Serving.{Answers};
 
 use running::Ended;
 use std::io;
@@ -31,17 +33,21 @@ pub fn read_full<R: Read>(source: &mut R, buf: &mut [u8]) -> io::Result<usize>
     Ok(done)
 }
 
-fn emit<W: Write>(answers: &mut W, out: &[u8], k: usize) -> io::Result<()> {
-    if k <= out.len() {
-        answers.write_all(&out[..k])?;
-    }
-    Ok(())
+// The first k bytes of out, or all of it.
+fn emit<W: Write>(answers: &mut W, out: &[u8], k: usize) -> io::Result<()>
+    ensures { OnOk result (Appends (W.contents answers.old) (W.contents answers.new) (take k out.now)) }
+{
+    let end = k.min(out.len());
+    answers.write_all(&out[..end])
 }
 
 // One byte more is read than a run may have, so that input that is too long is seen to be. The tables and the output
 // always fit: 512 nodes of 6 words, 2,048 entries of 4 words, and 11 bytes for each of 16,384.
 // An error is the first of a read, before anything is written, or of a write.
-pub fn serve<R: Read, W: Write>(source: &mut R, answers: &mut W) -> io::Result<()> {
+pub fn serve<R: Read, W: Write>(source: &mut R, answers: &mut W) -> io::Result<()>
+    ensures { OnOk result (IfSome (R.remaining source.old) (λ input. (bytes : List ℕ) × Answers input bytes
+        × Appends (W.contents answers.old) (W.contents answers.new) bytes)) }
+{
     let mut input = [0u8; 16385];
     let mut nodes = [0u32; 3072];
     let mut entries = [0u32; 8192];

@@ -1,0 +1,85 @@
+-- A whole input, and the answers to it.
+-- In order: what is read of an input whose bytes are known; the answers; a run of the runner's lengths is not refused.
+-- Assumes nothing.
+use Rattle.std.proofs.Common.{◌≡◌, ℕ, suc, ◌<◌, ◌≤◌, List, [], ◌∷◌, ◌++◌, length, take, sym, ap, ◌∙◌, arith, length-take-le}
+use Rattle.std.specs.Prelude.{Option, None, Some, IfSome}
+use Rattle.std.proofs.lemmas.List.{append-nil, take_all, take-append-le}
+use Rattle.std.specs.Io.KnownBytes.{Consumes, Appends, IsAtEnd}
+use native.Mathlib.Decide.{dec_lt}
+use Rattle.terms.specs.Terms.{small}
+use Rattle.running.specs.declared.Ended.{Ended}
+use Rattle.running.specs.Running.{outcome, run_of, end_of}
+use Rattle.running.proofs.Enough.{Runs, runs_always}
+use Rattle.serving.specs.Serving.{answers_of, Answers}
+
+-- ---- what is read
+
+first_of : (m : ℕ) (xs ys zs : List ℕ) → xs ≡ ys ++ zs → length ys ≤ m → (length ys < m → zs ≡ []) → take m xs ≡ ys
+first_of m xs ys [] h le e = ap (take m) (h ∙ append-nil ys) ∙ take_all m ys le
+first_of m xs ys (z ∷ zs) h le e = by (dec_lt (length ys) m)
+  where
+    by : Dec (length ys < m) → take m xs ≡ ys
+    by (yes l) =
+        let none : suc (length zs) ≡ 0 = ap length (e l) in
+        absurd (omega arith)
+    by (no l) = ap (take m) h ∙ take-append-le m ys (z ∷ zs) (omega arith) ∙ take_all m ys le
+
+-- a buffer of m bytes whose first n were read, with less than m only at the end of the input
+pub first_read : (m n : ℕ) (old new : Option (List ℕ)) (buf : List ℕ) → length buf ≡ m → n ≤ length buf →
+    Consumes old new (take n buf) → (n < m → IsAtEnd new) → IfSome old (λ xs. take m xs ≡ take n buf)
+first_read m n None new buf is le h e = tt
+first_read m n (Some xs) None buf is le h e = absurd h
+first_read m n (Some xs) (Some zs) buf is le h e =
+    let long : length (take n buf) ≡ n = length-take-le n buf le in
+    first_of m xs (take n buf) zs h (omega arith) (λ l. e (omega arith))
+
+-- ---- the answers
+
+pub answered : (known before after : Option (List ℕ)) (input ns es out ns' es' out' : List ℕ) (end : Ended) (k : ℕ) →
+    IfSome known (λ xs. take 16385 xs ≡ input) →
+    length ns ≡ 3072 → length es ≡ 8192 → length out ≡ 180224 →
+    outcome ns' es' out' end ≡ run_of small input ns es out → end ≡ Ended.Length k →
+    Appends before after (take k out') →
+    IfSome known (λ xs. (bytes : List ℕ) × Answers xs bytes × Appends before after bytes)
+answered None before after input ns es out ns' es' out' end k i n e o h is a = tt
+answered (Some xs) before after input ns es out ns' es' out' end k i n e o h is a = (
+  take k out',
+  record {
+    nodes = ns;
+    entries = es;
+    out = out;
+    nodes_fit = n;
+    entries_fit = e;
+    out_fits = o;
+    run = ap answers_of
+        (ap (outcome ns' es' out') (sym is) ∙ h ∙ ap (λ s. run_of small s ns es out) (sym i));
+  },
+  a,
+)
+
+-- ---- a run of the runner's lengths is not refused
+
+abbrev is_length : Ended → ℕ
+is_length (Ended.Length k) = 1
+is_length Ended.NoRoom = 0
+is_length Ended.BadTable = 0
+
+pub never : {A : Type 0} (input ns es out ns' es' out' : List ℕ) (end : Ended) →
+    length ns ≡ 3072 → length es ≡ 8192 → length out ≡ 180224 →
+    outcome ns' es' out' end ≡ run_of small input ns es out → is_length end ≡ 0 → A
+never input ns es out ns' es' out' end n e o h none =
+    let r : Runs (run_of small input ns es out) = runs_always input ns es out n e o in
+    let one : is_length end ≡ 1 = ap is_length (ap end_of h ∙ r.is) in
+    absurd (omega arith)
+
+pub never_no_room : {A : Type 0} (input ns es out ns' es' out' : List ℕ) (end : Ended) →
+    length ns ≡ 3072 → length es ≡ 8192 → length out ≡ 180224 →
+    outcome ns' es' out' end ≡ run_of small input ns es out → end ≡ Ended.NoRoom → A
+never_no_room input ns es out ns' es' out' end n e o h is =
+    never input ns es out ns' es' out' end n e o h (ap is_length is)
+
+pub never_bad_table : {A : Type 0} (input ns es out ns' es' out' : List ℕ) (end : Ended) →
+    length ns ≡ 3072 → length es ≡ 8192 → length out ≡ 180224 →
+    outcome ns' es' out' end ≡ run_of small input ns es out → end ≡ Ended.BadTable → A
+never_bad_table input ns es out ns' es' out' end n e o h is =
+    never input ns es out ns' es' out' end n e o h (ap is_length is)

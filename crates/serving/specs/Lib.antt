@@ -1,0 +1,2 @@
+-- What serving answers.
+pub mod Serving
