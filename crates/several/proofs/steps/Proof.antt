@@ -25,10 +25,10 @@ decreases-loop nodes₀ entries₀ pairs₀ who limit most counters₀ session�
     count made =
     most - made
 
-loop-holds : tie.Need-loop-init invariant-loop decreases-loop
+loop-holds : tie.Need-loop-count-init invariant-loop decreases-loop
 loop-holds c = (search go_first, search rules, search rules, search rules, search rules, search rules, search rules)
 
-loop-again : tie.Need-loop-preserved invariant-loop decreases-loop
+loop-again : tie.Need-loop-count-preserved invariant-loop decreases-loop
 loop-again c = (search go_on, search rules, search rules, search few_pairs, search rules, search rules, search rules)
 
 pub steps_spec : {M : Type 1} → statement M
