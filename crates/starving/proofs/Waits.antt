@@ -33,7 +33,7 @@ use Rattle.reached.proofs.Tested.{in_words_lem, all_in_words_lem}
 use Rattle.fairness.specs.Calls.{after, steps}
 use Rattle.fairness.proofs.Ended.{fair_while}
 use Rattle.starving.proofs.Demand3.{demand_3}
-use Rattle.starving.proofs.Reaches.{Reaches, calls-reach}
+use Rattle.starving.proofs.Reaches.{Reaches, calls_reach}
 use Rattle.starving.proofs.Tested.{passes_test, tested_fair}
 use Rattle.starving.proofs.Possible.{round, premise, served_in_turn}
 
@@ -90,7 +90,7 @@ unfolding fresh_of fits
 begin_reached = fresh (replicate 3072 0) (replicate 8192 0) _ _ fresh_counters refl
 
 prepared_reached : Reaches prepared
-prepared_reached = calls-reach begin begin_reached preparing (all_in_words_lem preparing refl)
+prepared_reached = calls_reach begin begin_reached preparing (all_in_words_lem preparing refl)
 
 asked_started : reply prepared (Call.Start 1 (Op.Range 1 100)) ≡ Answer.Started
 unfolding opened_up
@@ -142,7 +142,7 @@ unfolding opened_up
 whole_case_allowed = refl
 
 halfway_reached : Reaches halfway
-halfway_reached = calls-reach begin begin_reached lines (all_in_words_lem lines refl)
+halfway_reached = calls_reach begin begin_reached lines (all_in_words_lem lines refl)
 
 again_started : reply halfway (Call.Start 1 (Op.Range 1 100)) ≡ Answer.Started
 unfolding opened_up
