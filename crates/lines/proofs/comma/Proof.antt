@@ -7,10 +7,10 @@ use Rattle.lines.proofs.Read.{commas}
 use Rattle.lines.proofs.comma.Statement.{statement}
 use Rattle.lines.proofs.comma.Tie as tie
 
-abbrev invariant-loop : tie.invariant-loop
+abbrev invariant-loop : tie.invariant-loop-i
 invariant-loop s i₀ i = (i ≤ length s) × (comma_in s ≡ i + comma_in (drop i s))
 
-abbrev decreases-loop : tie.decreases-loop
+abbrev decreases-loop : tie.decreases-loop-i
 decreases-loop s i₀ i = length s - i
 
 pub comma_spec : {M : Type 1} → statement M

@@ -5,11 +5,11 @@ use borrow.Author.Rules.{rules}
 use Rattle.lines.proofs.print.Statement.{statement}
 use Rattle.lines.proofs.print.Tie as tie
 
-print_words_requires : tie.Need-print-words-requires
+print_words_requires : tie.Need-print_words-p-requires
 unfolding answer_line
 print_words_requires c κs = search two_parts
 
-put_bytes_requires : tie.Need-put-bytes-requires
+put_bytes_requires : tie.Need-put_bytes-requires
 unfolding answer_line
 put_bytes_requires c κs = search two_parts
 
@@ -22,7 +22,6 @@ print_spec =
     tie.close
     (tie.spec
     print_words_requires
-    (λ c. search rules)
     put_bytes_requires
     (λ c. search rules)
     returns)

@@ -5,11 +5,11 @@ use borrow.Author.Rules.{rules}
 use Rattle.lines.proofs.print_refusal.Statement.{statement}
 use Rattle.lines.proofs.print_refusal.Tie as tie
 
-put_one_requires : tie.Need-put-one-requires
+put_one_requires : tie.Need-put_one-p-requires
 unfolding refused_line
 put_one_requires c κs = search two_parts
 
-put_bytes_requires : tie.Need-put-bytes-requires
+put_bytes_requires : tie.Need-put_bytes-requires
 unfolding refused_line
 put_bytes_requires c κs = search two_parts
 
@@ -21,9 +21,7 @@ pub print_refusal_spec : {M : Type 1} → statement M
 print_refusal_spec =
     tie.close
     (tie.spec
-    (λ c. search rules)
     put_one_requires
-    (λ c. search rules)
     put_bytes_requires
     (λ c. search rules)
     returns)

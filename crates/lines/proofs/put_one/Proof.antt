@@ -5,11 +5,11 @@ use borrow.Author.Rules.{rules}
 use Rattle.lines.proofs.put_one.Statement.{statement}
 use Rattle.lines.proofs.put_one.Tie as tie
 
-put_bytes_requires : tie.Need-put-bytes-requires
+put_bytes_requires : tie.Need-put_bytes-p-requires
 unfolding one_of
 put_bytes_requires c κs = search two_parts
 
-put_number_requires : tie.Need-put-number-requires
+put_number_requires : tie.Need-put_number-requires
 unfolding one_of
 put_number_requires c κs = search two_parts
 

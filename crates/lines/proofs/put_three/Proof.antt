@@ -5,11 +5,11 @@ use borrow.Author.Rules.{rules}
 use Rattle.lines.proofs.put_three.Statement.{statement}
 use Rattle.lines.proofs.put_three.Tie as tie
 
-put_one_requires : tie.Need-put-one-requires
+put_one_requires : tie.Need-put_one-p-requires
 unfolding more
 put_one_requires c κs = search two_parts
 
-put_two_requires : tie.Need-put-two-requires
+put_two_requires : tie.Need-put_two-requires
 unfolding more
 put_two_requires c κs = search two_parts
 
@@ -22,7 +22,6 @@ put_three_spec =
     tie.close
     (tie.spec
     put_one_requires
-    (λ c. search rules)
     put_two_requires
     (λ c. search rules)
     returns)

@@ -5,11 +5,11 @@ use borrow.Author.Rules.{rules}
 use Rattle.lines.proofs.put_two.Statement.{statement}
 use Rattle.lines.proofs.put_two.Tie as tie
 
-put_one_requires : tie.Need-put-one-requires
+put_one_requires : tie.Need-put_one-p-requires
 unfolding more
 put_one_requires c κs = search two_parts
 
-put_one_requires_2 : tie.Need-put-one-requires-2
+put_one_requires_2 : tie.Need-put_one-requires
 unfolding more
 put_one_requires_2 c κs = search two_parts
 
@@ -22,7 +22,6 @@ put_two_spec =
     tie.close
     (tie.spec
     put_one_requires
-    (λ c. search rules)
     put_one_requires_2
     (λ c. search rules)
     returns)

@@ -18,7 +18,6 @@ read_line_spec =
     (λ c. search rules)
     (λ c κs. search rules)
     (λ c. search lines)
-    (λ c. search rules)
     (λ c κs. search rules)
     (λ c. search rules)
     (λ c. search rules)

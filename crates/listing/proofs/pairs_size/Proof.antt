@@ -8,11 +8,11 @@ use Rattle.listing.proofs.Put.{pairs_sizes}
 use Rattle.listing.proofs.pairs_size.Statement.{statement}
 use Rattle.listing.proofs.pairs_size.Tie as tie
 
-abbrev invariant-loop : tie.invariant-loop
+abbrev invariant-loop : tie.invariant-loop-i
 invariant-loop keys values n₀ i₀ n i =
     (i ≤ length keys) × (n ≤ 64 * i) × (n + length (pairs (drop i keys) (drop i values)) ≡ length (pairs keys values))
 
-abbrev decreases-loop : tie.decreases-loop
+abbrev decreases-loop : tie.decreases-loop-i
 decreases-loop keys values n₀ i₀ n i = length keys - i
 
 pub pairs_size_spec : {M : Type 1} → statement M

@@ -12,7 +12,6 @@ put_body_spec =
     (tie.spec
     (λ c κs. (search rules, search two_parts))
     (λ c. search rules)
-    (λ c. search rules)
     (λ c κs. search two_parts)
     (λ c. search rules)
     (λ c. search two_parts))

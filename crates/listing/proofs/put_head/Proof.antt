@@ -10,9 +10,7 @@ unfolding head_of
 put_head_spec =
     tie.close
     (tie.spec
-    (λ c. search rules)
     (λ c κs. search two_parts)
-    (λ c. search rules)
     (λ c κs. search two_parts)
     (λ c. search rules)
     (λ c. search two_parts))

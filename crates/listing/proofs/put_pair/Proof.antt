@@ -1,7 +1,7 @@
 -- `listing::put_pair` meets its contract. Assumes nothing.
 use Rattle.text.proofs.Write.{two_parts}
-use Rattle.listing.specs.Listing.{pair_of}
 use borrow.Author.Rules.{rules}
+use Rattle.listing.specs.Listing.{pair_of}
 use Rattle.listing.proofs.put_pair.Statement.{statement}
 use Rattle.listing.proofs.put_pair.Tie as tie
 
@@ -10,9 +10,7 @@ unfolding pair_of
 put_pair_spec =
     tie.close
     (tie.spec
-    (λ c. search rules)
     (λ c κs. search two_parts)
-    (λ c. search rules)
     (λ c κs. search two_parts)
     (λ c. search rules)
     (λ c. search two_parts))

@@ -8,11 +8,11 @@ use Rattle.listing.proofs.Put.{Rest, pairs_stores}
 use Rattle.listing.proofs.put_pairs.Statement.{statement}
 use Rattle.listing.proofs.put_pairs.Tie as tie
 
-abbrev invariant-loop : tie.invariant-loop
+abbrev invariant-loop : tie.invariant-loop-i
 invariant-loop out₀ place keys values p₀ i₀ out p i =
     Rest keys values out₀ out place p i × (i ≤ length keys) × (length out ≡ length out₀)
 
-abbrev decreases-loop : tie.decreases-loop
+abbrev decreases-loop : tie.decreases-loop-i
 decreases-loop out₀ place keys values p₀ i₀ out p i = length keys - i
 
 pub put_pairs_spec : {M : Type 1} → statement M

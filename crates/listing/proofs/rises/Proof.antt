@@ -8,10 +8,10 @@ use Rattle.listing.proofs.Pairs.{risen}
 use Rattle.listing.proofs.rises.Statement.{statement}
 use Rattle.listing.proofs.rises.Tie as tie
 
-abbrev invariant-loop : tie.invariant-loop
+abbrev invariant-loop : tie.invariant-loop-i
 invariant-loop keys last₀ i₀ last i = (i ≤ length keys) × (rising 0 keys ≡ rising last (drop i keys))
 
-abbrev decreases-loop : tie.decreases-loop
+abbrev decreases-loop : tie.decreases-loop-i
 decreases-loop keys last₀ i₀ last i = length keys - i
 
 pub rises_spec : {M : Type 1} → statement M

@@ -13,14 +13,14 @@ use Rattle.running.proofs.Loop.{Rest, rest_starts, running, onward, rooms}
 use Rattle.running.proofs.serve_lines.Statement.{statement}
 use Rattle.running.proofs.serve_lines.Tie as tie
 
-abbrev invariant-loop : tie.invariant-loop
+abbrev invariant-loop : tie.invariant-loop-place
 invariant-loop input nodes₀ entries₀ out₀ counters₀ sessions₀ place₀ at₀ nodes entries out counters sessions place at =
     Rest (write_at out₀ 0 (lines_run (lines_of input) small nodes₀ entries₀ (fresh_register counters₀)))
     small input nodes entries out counters sessions place at ×
     (place ≤ length input) × (at ≤ 11 * place) × (length out ≡ length out₀) × (length nodes ≡ length nodes₀) ×
     (length entries ≡ length entries₀) × (length sessions ≡ 16)
 
-abbrev decreases-loop : tie.decreases-loop
+abbrev decreases-loop : tie.decreases-loop-place
 decreases-loop input nodes₀ entries₀ out₀ counters₀ sessions₀ place₀ at₀ nodes entries out counters sessions place at =
     length input - place
 

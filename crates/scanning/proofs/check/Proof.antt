@@ -9,10 +9,11 @@ use Rattle.scanning.proofs.Scan.{checked}
 use Rattle.scanning.proofs.check.Statement.{statement}
 use Rattle.scanning.proofs.check.Tie as tie
 
-abbrev invariant-loop : tie.invariant-loop
-invariant-loop most input st₀ place₀ st place = check_of most input ≡ scan_of most place st (lines_of (drop place input))
+abbrev invariant-loop : tie.invariant-loop-t
+invariant-loop most input st₀ place₀ st place =
+    check_of most input ≡ scan_of most place st (lines_of (drop place input))
 
-abbrev decreases-loop : tie.decreases-loop
+abbrev decreases-loop : tie.decreases-loop-t
 decreases-loop most input st₀ place₀ st place = length input - place
 
 pub check_spec : {M : Type 1} → statement M

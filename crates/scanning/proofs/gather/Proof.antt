@@ -11,12 +11,12 @@ use Rattle.scanning.proofs.Scan.{gathered}
 use Rattle.scanning.proofs.gather.Statement.{statement}
 use Rattle.scanning.proofs.gather.Tie as tie
 
-abbrev invariant-loop : tie.invariant-loop
+abbrev invariant-loop : tie.invariant-loop-place
 invariant-loop input name out₀ place₀ i₀ out place i =
     (i ≤ place) × (place ≤ length input) × (length out ≡ length out₀) ×
     (sets out₀ 0 (numbers_in name (lines_of input)) ≡ sets out i (numbers_in name (lines_of (drop place input))))
 
-abbrev decreases-loop : tie.decreases-loop
+abbrev decreases-loop : tie.decreases-loop-place
 decreases-loop input name out₀ place₀ i₀ out place i = length input - place
 
 pub gather_spec : {M : Type 1} → statement M

@@ -8,7 +8,6 @@ pub key_line_spec : {M : Type 1} → statement M
 key_line_spec =
     tie.close
     (tie.spec
-    (λ c. search rules)
     (λ c κs. search rules)
     (λ c. search rules)
     (λ c κs. search rules)

@@ -10,9 +10,7 @@ read_spec =
     (tie.spec
     (λ c κs. search rules)
     (λ c. search rules)
-    (λ c. search rules)
     (λ c κs. search rules)
-    (λ c. search rules)
     (λ c κs. search rules)
     (λ c. search rules)
     (λ c. search rules)
