@@ -182,7 +182,7 @@ module _ (z : Size) (i top k v : ℕ) (ns es : List ℕ) (F : Filed z i top ns e
   linked_fits : fits z linked_nodes laid_entries ≡ true
   linked_fits =
       fits_as z laid_nodes laid_entries linked_nodes laid_entries (store_length 6 laid_nodes p 2 (i + 2)) refl
-          laid_fits
+      laid_fits
 
   locked_else : (j l : ℕ) → j * 6 + l ≢ pred_of i * 6 + 3 → node_at locked j l ≡ node_at ns j l
   locked_else j l apart = put_off ns p 3 1 j l apart
