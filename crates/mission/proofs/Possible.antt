@@ -147,7 +147,7 @@ query_ends : Query
 unfolding opened_up
 query_ends = record {
   reached = begin_reached;
-  in_words_lem = (in_words_lem (Call.Start 1 whole) refl, all_in_words_lem meanwhile refl);
+  in_words = (in_words_lem (Call.Start 1 whole) refl, all_in_words_lem meanwhile refl);
   started = refl;
   still = refl;
   ended = refl;
@@ -162,8 +162,8 @@ loaded : Listed 1 query (replicate 16357 0) ((20, 7) ∷ [])
 loaded =
     let σ = begun begin no_past 1 1 4294967294 meanwhile in
     let h = begun_past begin no_past 1 1 4294967294 meanwhile in
-    let R = run_reached σ h (on begin_reached (Call.Start 1 whole) query_ends.in_words_lem.0) meanwhile
-    query_ends.in_words_lem.1 in
+    let R = run_reached σ h (on begin_reached (Call.Start 1 whole) query_ends.in_words.0) meanwhile
+    query_ends.in_words.1 in
     subst (Listed 1 query (replicate 16357 0)) query_list
     (listed_moment.any_range (run σ meanwhile) (past_of σ h meanwhile) R (Call.Step 1) 1 1 query_ends.ended
     (replicate 16357 0) (omega (arith, length-replicate {A = ℕ} 16357 0)))

@@ -155,14 +155,14 @@ module _ (l : Lived) (q low high : ℕ) (B : Begins l q low high) (w : ℕ) (cal
       (agrees_first key val first calls agrees))
 
   walks : Walks key val before q low high
-  walks = begins key val before q low high B.in_words_lem B.started
+  walks = begins key val before q low high B.in_words B.started
 
   good : Along (goes key val) (Good key val) (live walks.0) calls
   good = good_along key val (live walks.0) calls tt all_words agrees
 
   -- its last call
   reached_till : (d : Ended go_on (Open q low high) first calls) → Reaches (after go_on first d.lived)
-  reached_till d = calls_reach first (on B.reached (Call.Start q (Op.Range low high)) B.in_words_lem) d.lived
+  reached_till d = calls_reach first (on B.reached (Call.Start q (Op.Range low high)) B.in_words) d.lived
       (words_front d.lived (d.last ∷ d.later) (rw d.whole at all_words))
 
   ended : EndsWell l q low high w calls

@@ -100,7 +100,7 @@ range_words : InWords (Call.Start 1 (Op.Range 1 100))
 range_words = in_words_lem (Call.Start 1 (Op.Range 1 100)) refl
 
 asked_begins : Begins prepared 1 1 100
-asked_begins = record { reached = prepared_reached; in_words_lem = range_words; started = asked_started }
+asked_begins = record { reached = prepared_reached; in_words = range_words; started = asked_started }
 
 pub in_turn_fair : FairFor prepared 1 1 100 16 (round 1 81)
 in_turn_fair = premise prepared 1 1 100 asked_begins 16 1 81 (omega arith)
@@ -156,7 +156,7 @@ unfolding opened_up
 rest_passes = refl
 
 again_begins : Begins halfway 1 1 100
-again_begins = record { reached = halfway_reached; in_words_lem = range_words; started = again_started }
+again_begins = record { reached = halfway_reached; in_words = range_words; started = again_started }
 
 pub whole_case_fair : FairFor halfway 1 1 100 4 rest
 whole_case_fair = fair_while go_on whose (Open 1 1 100) Busy 4 asked_again rest
