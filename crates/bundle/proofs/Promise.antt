@@ -3,9 +3,8 @@
 -- finishing; reading. That rows are apart is asked for (`¬ List.Memᴰ e own`), never assumed. Assumes nothing.
 use Prim.Native.Nat.{ℕ, zero, suc, ◌+◌, ◌-◌, ◌*◌, ◌≤◌, ◌<◌}
 use mathlib.Core.Path.{◌≡◌, refl, sym, ◌∙◌, subst}
-use mathlib.Core.Logic.{◌⊎◌, inl, inr, ⊎_elim, ◌≢◌}
-use mathlib.Core.Bool.{Bool, true, false}
-use mathlib.Core.Option.{Option, none, some}
+use mathlib.Core.Logic.{inl, inr, ◌≢◌}
+use mathlib.Core.Bool.{false}
 use mathlib.Core.List.{List, [], ◌∷◌, Memᴰ}
 use native.Mathlib.Decide.{dec_le, dec_lt}
 use native.Mathlib.Omega.{arith}
@@ -13,12 +12,10 @@ use lib.ListN.{length}
 use lib.Dec.{ltb}
 use borrow.Author.Tests.{lt-ltb, le-ltb, le-leb, lt-leb}
 use Rattle.table.proofs.Laws.{word_stored, word_else, store_length}
-use Rattle.order.specs.Rows.{Row, look, newest, Bundle, final, pending, Seen, wait, found, read_at, read_newest}
+use Rattle.order.specs.Rows.{Row, look, Bundle, final, pending, found, read_at, read_newest}
 use Rattle.bundle.specs.Bundle.{word_at, put_at, look_of, go_on, scan_of, holds_up, at_of, newest_of, held_of, lay_of}
 use Rattle.bundle.specs.Bundle.{finish_of}
 use Rattle.bundle.specs.Shows.{Entry, RowAt, Shows, as_read, as_held}
-use Rattle.bundle.specs.declared.Read.{Read}
-use Rattle.bundle.specs.declared.Held.{Held}
 use Rattle.bundle.specs.declared.Look.{Look}
 use Rattle.bundle.proofs.Ways.{look_none, look_taken, look_above, look_pending, up_none, up_final, up_pending}
 use Rattle.bundle.proofs.Ways.{newest_none, newest_final, newest_pending, held_none, held_final, held_pending}

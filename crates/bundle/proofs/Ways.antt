@@ -8,7 +8,7 @@ use mathlib.Core.List.{List}
 use mathlib.Core.Bool.{Bool, true, false}
 use lib.Dec.{ltb}
 use native.Mathlib.Omega.{arith}
-use borrow.Author.Tests.{lt-ltb, le-ltb, le-leb, lt-leb, eq-eqb, ne_eqb}
+use borrow.Author.Tests.{le-leb, lt-leb, eq-eqb, ne_eqb}
 use Rattle.bundle.specs.Bundle.{word_at, put_at, look_of, go_on, scan_of, holds_up, at_of, newest_of, held_of, lay_of}
 use Rattle.bundle.specs.Bundle.{finish_of}
 use Rattle.bundle.specs.declared.Read.{Read}

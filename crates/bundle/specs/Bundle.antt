@@ -2,7 +2,7 @@
 -- In order: words; one entry of a scan; rule B3; rule B4; is the newest pending; laying; finishing. `size` is how
 -- many entries the table holds; `es` is the table; a link is 0 for none, else an entry's number and one more.
 -- Not here: rows as lists and what these definitions are of them (specs/Shows.antt). Assumes nothing.
-use Rattle.std.specs.Prelude.{ℕ, zero, suc, ◌-◌, List, Bool, true, false, cond, ltb, leb, eqb}
+use Rattle.std.specs.Prelude.{ℕ, zero, suc, ◌-◌, List, Bool, false, cond, ltb, leb, eqb}
 use Rattle.table.specs.Table.{word_of, store_of}
 use Rattle.bundle.specs.declared.Read.{Read}
 use Rattle.bundle.specs.declared.Held.{Held}

@@ -3,7 +3,7 @@
 -- `own` lists the entry numbers of a row, newest first: two rows are apart where no number is in both.
 -- Not here: whose row it is, and which rows are apart (the list's). Assumes nothing.
 use Rattle.std.specs.Prelude.{ℕ, ◌+◌, ◌<◌, ◌≡◌, List, [], ◌∷◌}
-use Rattle.std.proofs.Math.Option.{Option, none, some}
+use Rattle.std.proofs.Math.Option.{none, some}
 use Rattle.order.specs.Rows.{Row, Bundle, final, pending, Seen, wait, found}
 use Rattle.bundle.specs.Bundle.{word_at}
 use Rattle.bundle.specs.declared.Read.{Read}

@@ -6,7 +6,8 @@
 #![tactic(auto)]
 
 ghost use Rattle.std.specs.Prelude.{◌≡◌};
-ghost use Rattle.bundle.specs.Bundle.{word_at, put_at, look_of, holds_up, at_of, newest_of, held_of, lay_of, finish_of};
+ghost use Rattle.bundle.specs.Bundle.{word_at, put_at, look_of, holds_up, at_of, newest_of, held_of, lay_of};
+ghost use Rattle.bundle.specs.Bundle.{finish_of};
 
 // What a reader of a row is told.
 #[derive(Clone, Copy)]

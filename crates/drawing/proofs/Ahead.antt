@@ -125,7 +125,8 @@ module _ (key val : ℕ → ℕ) (start : Start) (f : ℕ → Option ℕ) (log :
     in_set : InSet b.part
     in_set = (
       chain_distinct key f p b.part part_chain,
-      λ x k. rw a.whole (mathlib.Core.List.Memᴰ.append_right a.front (rw b.whole (mathlib.Core.List.Memᴰ.append_left b.rest k))),
+      λ x k. rw a.whole (mathlib.Core.List.Memᴰ.append_right a.front
+          (rw b.whole (mathlib.Core.List.Memᴰ.append_left b.rest k))),
     )
 
     from_member : Fixed p

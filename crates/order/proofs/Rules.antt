@@ -27,7 +27,8 @@ pending_unseen s carried target row e s≤carried (inr (n, carried<n, e≡)) =
     ap (look s) e≡ ∙ look_skip s n target row (omega arith)
 
 -- rule B3
-pub read_at_right : (s : ℕ) (b : Bundle) (e : Row) (o : Option ℕ) → Effective b e → read_at s b ≡ found o → look s e ≡ o
+pub read_at_right : (s : ℕ) (b : Bundle) (e : Row) (o : Option ℕ) → Effective b e → read_at s b ≡ found o →
+    look s e ≡ o
 unfolding read_at
 read_at_right s (final row) e o effective = λ answer. ap (look s) effective ∙ found_same answer
 read_at_right s (pending carried target row) e o effective =

@@ -163,7 +163,8 @@ module _ {A : Type 0} (key : A → ℕ) where
       eqb_cases Short (key y) k _ _ (λ _. omega arith) (λ _. omega (arith, cut_length_le k l))
 
 -- ---- the set after updates is in order
-pub set_rises : (start : List Pair) (updates : List Update) → Rises key_of start → Rises key_of (set_after start updates)
+pub set_rises : (start : List Pair) (updates : List Update) → Rises key_of start →
+    Rises key_of (set_after start updates)
 unfolding set_after
 set_rises start [] rises = rises
 set_rises start (insert k v ∷ updates) rises =

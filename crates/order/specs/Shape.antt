@@ -5,7 +5,7 @@
 -- no part of that: it follows from what the steps number (proofs/Shape). Assumes nothing.
 use Rattle.std.proofs.Math.Option.{some}
 use Rattle.std.specs.Prelude.{◌≡◌, ℕ, suc, ◌<◌}
-use mathlib.Core.List.{List, [], ◌∷◌, Memᴰ}
+use mathlib.Core.List.{[], ◌∷◌, Memᴰ}
 use Rattle.order.specs.Rows.{Row}
 use Rattle.order.specs.History.{head, next, number_insert, number_remove, Log, ins, rem, Start, stamp, rows_from}
 use Rattle.order.specs.History.{members, History}

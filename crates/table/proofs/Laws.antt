@@ -2,12 +2,12 @@
 -- In order: places of different words differ; the word stored; the other words; the length. Assumes nothing.
 use Prim.Native.Nat.{ℕ, suc, ◌+◌, ◌*◌, ◌≤◌, ◌<◌}
 use mathlib.Core.Path.{◌≡◌, sym, ap}
-use mathlib.Core.Logic.{◌⊎◌, inl, inr, ⊎_elim, ◌≢◌}
+use mathlib.Core.Logic.{◌⊎◌, ⊎_elim, ◌≢◌}
 use mathlib.Core.List.{List}
 use native.Mathlib.Nat.{mul-le-mul_right}
 use native.Mathlib.Decide.{dec_lt}
 use native.Mathlib.Omega.{arith}
-use lib.ListN.{length, get_or, set, length-set}
+use lib.ListN.{length, length-set}
 use lib.Seq.{get_or-set_same, get_or-set_other}
 use Rattle.table.specs.Table.{word_of, store_of}
 

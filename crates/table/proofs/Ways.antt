@@ -1,7 +1,7 @@
 -- Each way out of the table's functions, over plain numbers. Assumes nothing.
 use Prim.Native.Nat.{ℕ, ◌+◌, ◌*◌, ◌≤◌, ◌<◌}
 use mathlib.Core.Path.{◌≡◌, refl, sym, ◌∙◌}
-use mathlib.Core.List.{List, [], ◌++◌, append-nil}
+use mathlib.Core.List.{List, ◌++◌, append-nil}
 use lib.ListN.{length, get_or, set, drop, replicate, get_or-eq_default, length-set}
 use lib.Seq.{set_out, drop-length}
 use borrow.Author.Fill.{fill_more}

@@ -11,13 +11,13 @@ use Rattle.onward.proofs.Ways.{Giving, give_first, give_goes, gives, few_handed}
 use Rattle.onward.proofs.hand_on.Statement.{statement}
 use Rattle.onward.proofs.hand_on.Tie as tie
 
-abbrev invariant-loop : tie.invariant-loop
+abbrev invariant-loop : tie.invariant-loop-made
 invariant-loop nodes entries pairs₀ low high snapshot most at₀ handed₀ count₀ made₀ pairs at handed count made =
     Giving (hand_on (most - made₀) small nodes entries low high snapshot pairs₀ at₀ handed₀ count₀ made₀) small nodes
     entries low high snapshot pairs at handed count made most × (count ≤ made) × (made ≤ most) ×
     (most < 4294967295) × (length pairs ≡ length pairs₀)
 
-abbrev decreases-loop : tie.decreases-loop
+abbrev decreases-loop : tie.decreases-loop-made
 decreases-loop nodes entries pairs₀ low high snapshot most at₀ handed₀ count₀ made₀ pairs at handed count made = most - made
 
 pub hand_on_spec : {M : Type 1} → statement M

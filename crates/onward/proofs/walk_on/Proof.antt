@@ -8,11 +8,11 @@ use Rattle.onward.proofs.Ways.{Walking, walk_first, walk_goes, walks}
 use Rattle.onward.proofs.walk_on.Statement.{statement}
 use Rattle.onward.proofs.walk_on.Tie as tie
 
-abbrev invariant-loop : tie.invariant-loop
+abbrev invariant-loop : tie.invariant-loop-count
 invariant-loop nodes sought from to made most pred₀ curr₀ count₀ pred curr count =
     Walking (walk_on (most - made) small nodes sought from to made) small nodes sought pred curr count most
 
-abbrev decreases-loop : tie.decreases-loop
+abbrev decreases-loop : tie.decreases-loop-count
 decreases-loop nodes sought from to made most pred₀ curr₀ count₀ pred curr count = most - count
 
 pub walk_on_spec : {M : Type 1} → statement M
