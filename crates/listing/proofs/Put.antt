@@ -1,7 +1,7 @@
 -- Writing: a line, a pair, pairs, the listing: their bytes, their sizes, each store at its place.
 -- In order: a line; a pair; pairs; their size; the listing; each way out of `write`.
 -- Not here: the pairs that may be written (Pairs), how long a listing can be (Length). Assumes nothing.
-use Prim.Native.Nat.{ℕ, ◌+◌, ◌-◌, ◌*◌, ◌≤◌, ◌<◌}
+use Prim.Native.Nat.{ℕ, ◌+◌, ◌*◌, ◌≤◌, ◌<◌}
 use mathlib.Core.Path.{◌≡◌, refl, sym, ◌∙◌, ap}
 use mathlib.Core.List.{List, [], ◌∷◌, ◌++◌}
 use mathlib.Core.Bool.{Bool, true, false}
