@@ -7,40 +7,51 @@
 use listing::Written;
 use loading::Loaded;
 use scanning::Reading;
+use std::env::{Env, FillError};
+use std::fs::File;
+use std::io;
 
 // ---- reading and writing back
 
-fn show_back(out: &[u8], k: usize, input: &[u8]) {
-    say::one(b"written=", k as u64);
+fn show_back(rt: &impl Print, out: &[u8], k: usize, input: &[u8]) -> io::Result<()> {
+    say::one(rt, b"written=", k as u64)?;
     if k <= out.len() {
-        if check::same(&out[..k], input) {
-            io::write_all(1, b"same bytes\n");
+        if &out[..k] == input {
+            rt.write_all(b"same bytes\n")?;
         }
     }
+    Ok(())
 }
 
-fn write_back(input: &[u8], stamp: u32, keys: &[u32], values: &[u32]) {
+fn write_back(
+    rt: &impl Print,
+    input: &[u8],
+    stamp: u32,
+    keys: &[u32],
+    values: &[u32],
+) -> io::Result<()> {
     let mut out = [0u8; 16357];
     match listing::write(stamp, keys, values, &mut out) {
-        Written::Length(k) => show_back(&out, k, input),
-        Written::NoRoom => say::one(b"refused=", 11),
-        Written::BadPairs => say::one(b"refused=", 12),
+        Written::Length(k) => show_back(rt, &out, k, input),
+        Written::NoRoom => say::one(rt, b"refused=", 11),
+        Written::BadPairs => say::one(rt, b"refused=", 12),
     }
 }
 
-fn reads(input: &[u8]) {
+fn reads(rt: &impl Print, input: &[u8]) -> io::Result<()> {
     let mut keys = [0u32; 510];
     let mut values = [0u32; 510];
     match scanning::read(510, input, &mut keys, &mut values) {
         Reading::Whole(stamp, count) => {
-            say::two(b"read=", stamp as u64, count as u64);
+            say::two(rt, b"read=", stamp as u64, count as u64)?;
             let n = count as usize;
             if n <= 510 {
-                write_back(input, stamp, &keys[..n], &values[..n]);
+                write_back(rt, input, stamp, &keys[..n], &values[..n])?;
             }
+            Ok(())
         }
-        Reading::BadListing(p) => say::two(b"refused=", 9, p as u64),
-        Reading::TooMany => say::one(b"refused=", 10),
+        Reading::BadListing(p) => say::two(rt, b"refused=", 9, p as u64),
+        Reading::TooMany => say::one(rt, b"refused=", 10),
     }
 }
 
@@ -55,90 +66,113 @@ fn sum(words: &[u32]) -> u64 {
     let mut h: u64 = 0;
     let mut i: usize = 0;
     while i < words.len() {
-        let twice = std::num::wrapping_add_u64(h, h);
-        let more = std::num::wrapping_add_u64(h, wide(words[i]));
-        h = std::num::wrapping_add_u64(twice, more);
+        let twice = h.wrapping_add(h);
+        let more = h.wrapping_add(wide(words[i]));
+        h = twice.wrapping_add(more);
         i += 1;
     }
     h
 }
 
-fn show_loaded(r: Loaded) {
+fn show_loaded(rt: &impl Print, r: Loaded) -> io::Result<()> {
     match r {
         Loaded::Register(c) => say::three(
+            rt,
             b"loaded=",
             c.nodes as u64,
             c.entries as u64,
             c.stamp as u64,
         ),
-        Loaded::BadTable => say::one(b"refused=", 7),
-        Loaded::BadListing(p) => say::two(b"refused=", 9, p as u64),
-        Loaded::TooMany => say::one(b"refused=", 10),
+        Loaded::BadTable => say::one(rt, b"refused=", 7),
+        Loaded::BadListing(p) => say::two(rt, b"refused=", 9, p as u64),
+        Loaded::TooMany => say::one(rt, b"refused=", 10),
     }
 }
 
-fn loads(input: &[u8], nodes: &mut [u32], entries: &mut [u32]) {
+fn loads(rt: &impl Print, input: &[u8], nodes: &mut [u32], entries: &mut [u32]) -> io::Result<()> {
     let r = loading::load(input, nodes, entries);
-    show_loaded(r);
-    say::two(b"words=", sum(nodes), sum(entries));
+    show_loaded(rt, r)?;
+    say::two(rt, b"words=", sum(nodes), sum(entries))
 }
 
 // Into tables whose every word is 7.
-fn load_into_sevens(input: &[u8]) {
+fn load_into_sevens(rt: &impl Print, input: &[u8]) -> io::Result<()> {
     let mut nodes = [7u32; 3072];
     let mut entries = [7u32; 8192];
-    loads(input, &mut nodes, &mut entries);
+    loads(rt, input, &mut nodes, &mut entries)
 }
 
 // ---- tables of other lengths, with a listing that is refused too
 
-fn short_nodes() {
+fn short_nodes(rt: &impl Print) -> io::Result<()> {
     let mut nodes = [7u32; 3071];
     let mut entries = [7u32; 8192];
-    loads(b"", &mut nodes, &mut entries);
+    loads(rt, b"", &mut nodes, &mut entries)
 }
 
-fn long_entries() {
+fn long_entries(rt: &impl Print) -> io::Result<()> {
     let mut nodes = [7u32; 3072];
     let mut entries = [7u32; 8193];
-    loads(b"", &mut nodes, &mut entries);
+    loads(rt, b"", &mut nodes, &mut entries)
 }
 
 // ---- files
 
-fn file(fd: i32) {
-    let mut input = io::large_buffer();
-    let n = io::read_full(fd, &mut input);
-    reads(&input[..n]);
-    load_into_sevens(&input[..n]);
+// At most 65,536 bytes of it.
+fn file(rt: &HostRuntime, source: &mut File) -> io::Result<()> {
+    let mut input = [0u8; 65536];
+    let n = serving::read_full(source, &mut input)?;
+    reads(rt, &input[..n])?;
+    load_into_sevens(rt, &input[..n])
 }
 
-fn named(i: usize) {
-    let mut path = io::buffer();
-    let length = os::arg(i, &mut path);
-    io::write_all(1, b"== ");
-    io::write_all(1, &path[..length]);
-    io::write_all(1, b"\n");
-    let fd = os::open_read(&path[..length]);
-    if fd < 0 {
-        os::fail(&path[..length]);
-        return;
-    }
-    file(fd);
-    libc::close(fd);
+// A line on standard error: the path, and why it did not open.
+fn fail(rt: &HostRuntime, path: &[u8], error: io::Error) -> io::Result<()> {
+    rt.stderr().write_all(path)?;
+    eprintln!(rt; ": {error}")
 }
 
-fn files(count: usize) {
-    let mut i = 1;
-    while i < count {
-        named(i);
-        i += 1;
+fn open(rt: &HostRuntime, path: &[u8]) -> io::Result<File> {
+    match std::str::from_utf8(path) {
+        Ok(name) => File::open(rt, name),
+        Err(_) => Err(io::Error::from(io::ErrorKind::InvalidFilename)),
     }
 }
 
-fn main() {
-    io::write_all(1, b"== a node table too short, an entry table too long\n");
-    short_nodes();
-    long_entries();
-    files(os::arg_count());
+fn named(rt: &HostRuntime, path: &[u8]) -> io::Result<()> {
+    rt.write_all(b"== ")?;
+    rt.write_all(path)?;
+    rt.write_all(b"\n")?;
+    match open(rt, path) {
+        Ok(mut source) => file(rt, &mut source),
+        Err(e) => fail(rt, path, e),
+    }
+}
+
+// Argument i, and whether there is one. One that has more bytes than a path may have is an empty name.
+fn argument(rt: &HostRuntime, i: usize) -> io::Result<bool> {
+    let mut path = [0u8; 4096];
+    let length = match rt.arg(i, &mut path) {
+        Ok(n) => n,
+        Err(FillError::TooLong) => 0,
+        Err(FillError::NotPresent) => return Ok(false),
+    };
+    named(rt, &path[..length])?;
+    Ok(true)
+}
+
+fn files(rt: &HostRuntime) -> io::Result<()> {
+    for i in 1..usize::MAX {
+        if !argument(rt, i)? {
+            break;
+        }
+    }
+    Ok(())
+}
+
+fn main(rt: HostRuntime) -> io::Result<()> {
+    rt.write_all(b"== a node table too short, an entry table too long\n")?;
+    short_nodes(&rt)?;
+    long_entries(&rt)?;
+    files(&rt)
 }

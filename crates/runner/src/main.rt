@@ -2,6 +2,8 @@
 // Not here: the work (crate running). Assumes nothing.
 #![tactic(auto)]
 
-fn main() {
-    serving::serve(0);
+use std::io;
+
+fn main(rt: HostRuntime) -> io::Result<()> {
+    serving::serve(&mut rt.stdin(), &mut rt.stdout())
 }
