@@ -1,4 +1,4 @@
-// Links the static library that `rt staticlib ffi` wrote; RAVENCRUMB_LIB names another folder that has libffi.a.
+// Links the static library that `.ci/library` wrote; RAVENCRUMB_LIB names another folder that has libffi.a.
 fn main() {
     let here = std::env::var("CARGO_MANIFEST_DIR").unwrap_or_default();
     let folder = std::env::var("RAVENCRUMB_LIB").unwrap_or(format!("{here}/../../target/staticlib"));

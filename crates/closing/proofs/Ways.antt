@@ -79,7 +79,8 @@ module _ (z : Size) (ns es : List ℕ) (o : OpWords) (p : PhaseWords) where
     unfolding finish_ahead
     finishes_other h = rw (eq-eqb p.phase 8 eight, ← test, h)
 
-    module _ (removes u : Bool) (h : b ≡ true) (kind : removes ≡ removing o) (room : u ≡ usable_ahead z removes p) where
+    module _ (removes u : Bool) (h : b ≡ true) (kind : removes ≡ removing o)
+        (room : u ≡ usable_ahead z removes p) where
       pub finishes_damaged : u ≡ false → finished ns es false ≡ finish_ahead z ns es o p
       unfolding finish_ahead
       finishes_damaged i = rw (eq-eqb p.phase 8 eight, ← test, h, ← kind, ← room, i)

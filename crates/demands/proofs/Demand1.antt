@@ -13,7 +13,8 @@ use lib.Dec.{ltb}
 use borrow.Author.Tests.{ltb-true, ltb-false}
 use lib.Seq.{get_or-set_same, get_or-set_other}
 use Rattle.nodes.specs.Nodes.{next_at, unlocked}
-use Rattle.terms.specs.Terms.{sought_of, high_of, out_of_bounds, tail_key, small, name_of, names_of, refusal_number, Refuses}
+use Rattle.terms.specs.Terms.{sought_of, high_of, out_of_bounds, tail_key, small, name_of, names_of, refusal_number}
+use Rattle.terms.specs.Terms.{Refuses}
 use Rattle.terms.specs.Terms.{started, waiting, refused}
 use Rattle.terms.specs.declared.Size.{Size}
 use Rattle.terms.specs.declared.Counters.{Counters}

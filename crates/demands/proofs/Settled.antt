@@ -26,7 +26,8 @@ use Rattle.steps.specs.Steps.{Done, done, Moved, over, Tables, tables, leaves, d
 use Rattle.steps.specs.Steps.{lock_step, insert_meets, insert_check, linked_of, remove_check, check_step, insert_laid}
 use Rattle.steps.specs.Steps.{remove_laid, insert_room, remove_room, held_at, held_either, on_held, prepare_step}
 use Rattle.steps.specs.Steps.{insert_prepare, remove_prepare, number_step, insert_link, remove_link, link_step, usable}
-use Rattle.steps.specs.Steps.{finish_step, has_sees, on_read, newest_step, range_sees, follow_step, hand_step, act_step}
+use Rattle.steps.specs.Steps.{finish_step, has_sees, on_read, newest_step, range_sees, follow_step, hand_step}
+use Rattle.steps.specs.Steps.{act_step}
 use Rattle.steps.specs.Steps.{locked_of}
 use Rattle.demands.specs.Demands.{FarNode, FarEntry, Misled, FullAt, Full, CheckDamage, HeldByAnother}
 use Rattle.demands.specs.Demands.{LockWaits, Wait, RoomDamage, PrepareDamage, held_for, RemoveUses, Damage}

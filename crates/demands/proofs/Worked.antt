@@ -20,9 +20,11 @@ use Rattle.steps.specs.declared.Phase.{Phase}
 use Rattle.steps.specs.declared.Session.{Session}
 use Rattle.steps.specs.declared.Stepped.{Stepped}
 use Rattle.steps.specs.Steps.{done, Tables, leaves, tables, ends, works, counted, busy_of, act_step, walk_step, free}
-use Rattle.steps.specs.Steps.{lock_step, insert_meets, insert_check, linked_of, remove_check, check_step, lay_in, insert_laid}
+use Rattle.steps.specs.Steps.{lock_step, insert_meets, insert_check, linked_of, remove_check, check_step, lay_in}
+use Rattle.steps.specs.Steps.{insert_laid}
 use Rattle.steps.specs.Steps.{remove_laid, insert_room, remove_room, held_at, prepare_step, number_step, insert_link}
-use Rattle.steps.specs.Steps.{remove_link, link_step, usable, finish_step, has_sees, newest_step, range_sees, follow_step}
+use Rattle.steps.specs.Steps.{remove_link, link_step, usable, finish_step, has_sees, newest_step, range_sees}
+use Rattle.steps.specs.Steps.{follow_step}
 use Rattle.steps.specs.Steps.{hand_step}
 use Rattle.register.specs.Register.{fits, fresh_nodes, fresh_entries, fresh_of, bad_key, began, start_of, step_of}
 use Rattle.demands.specs.Demands.{answer_of, returned}
@@ -31,10 +33,12 @@ use Rattle.demands.specs.Worked.{preparing, says, counters_of, WholeCase, Met}
 
 -- ---- every definition that a call computes with
 opened_up : ℕ
-unfolding word_of store_of look_of scan_of holds_up at_of newest_of held_of lay_of finish_of named_node clear_node out_of_bounds
+unfolding word_of store_of look_of scan_of holds_up at_of newest_of held_of lay_of finish_of named_node clear_node
+    out_of_bounds
     walk_step free lock_step insert_meets insert_check linked_of remove_check check_step lay_in insert_laid remove_laid
     insert_room
-    remove_room held_at prepare_step number_step insert_link remove_link link_step usable finish_step has_sees newest_step
+    remove_room held_at prepare_step number_step insert_link remove_link link_step usable finish_step has_sees
+    newest_step
     range_sees follow_step hand_step fits fresh_nodes fresh_entries fresh_of bad_key began start_of step_of
 opened_up = 0
 

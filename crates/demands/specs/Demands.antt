@@ -10,7 +10,8 @@ use Rattle.bundle.specs.Bundle.{at_of, newest_of}
 use Rattle.bundle.specs.declared.Read.{Read}
 use Rattle.bundle.specs.declared.Held.{Held}
 use Rattle.nodes.specs.Nodes.{next_at, lock_at, removed_at, newest_at, unlocked}
-use Rattle.terms.specs.Terms.{sought_of, high_of, removes_of, tail_key, refusal_number, Refuses, name_of, started, waiting}
+use Rattle.terms.specs.Terms.{sought_of, high_of, removes_of, tail_key, refusal_number, Refuses, name_of, started}
+use Rattle.terms.specs.Terms.{waiting}
 use Rattle.terms.specs.declared.Size.{Size}
 use Rattle.terms.specs.declared.Counters.{Counters}
 use Rattle.terms.specs.declared.Op.{Op}
@@ -22,7 +23,8 @@ use Rattle.steps.specs.declared.Stepped.{Stepped}
 use Rattle.steps.specs.Steps.{Done, done, idle, held_at, held_either}
 use Rattle.register.specs.declared.Started.{Started}
 use Rattle.register.specs.declared.Opened.{Opened}
-use Rattle.register.specs.Register.{Fresh, opened, fresh_nodes, fresh_entries, fresh_counters, fresh_of, start_of, step_of}
+use Rattle.register.specs.Register.{Fresh, opened, fresh_nodes, fresh_entries, fresh_counters, fresh_of, start_of}
+use Rattle.register.specs.Register.{step_of}
 use Rattle.sixteen.specs.declared.Register.{Register}
 use Rattle.sixteen.specs.declared.Call.{Call}
 use Rattle.sixteen.specs.Sixteen.{Left, served, session_of, serve_of}

@@ -28,7 +28,8 @@ use Rattle.packing.specs.Packing.{counters_at, record_at, reply_of, number_of, p
 use Rattle.several.specs.declared.Went.{Went}
 use Rattle.several.specs.Several.{Handed, handed, said_of, hand_out, Turned, turned, turn_with, turn_by, turn_of}
 use Rattle.several.specs.Several.{Gone, gone, stops, next_or, go_on, several_of}
-use Rattle.calling.specs.Calling.{lengths_fit, on_decoded, tally, Strode, strode, stands_still, after_steps, steps_record}
+use Rattle.calling.specs.Calling.{lengths_fit, on_decoded, tally, Strode, strode, stands_still, after_steps}
+use Rattle.calling.specs.Calling.{steps_record}
 use Rattle.calling.specs.Calling.{steps_session}
 use Rattle.ffi.specs.Ffi.{steps_call}
 use Rattle.ffi.proofs.Ways.{strides_silent}

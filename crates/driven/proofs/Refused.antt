@@ -17,7 +17,8 @@ use Rattle.terms.specs.declared.Refusal.{Refusal}
 use Rattle.steps.specs.declared.Session.{Session}
 use Rattle.steps.specs.Steps.{Done, done, Tables, tables}
 use Rattle.register.specs.declared.Opened.{Opened}
-use Rattle.register.specs.Register.{fits, opened, fresh_nodes, fresh_entries, fresh_counters, fresh_of, start_of, step_of}
+use Rattle.register.specs.Register.{fits, opened, fresh_nodes, fresh_entries, fresh_counters, fresh_of, start_of}
+use Rattle.register.specs.Register.{step_of}
 use Rattle.demands.specs.Demands.{answer_of, Kept}
 use Rattle.demands.proofs.Demand1.{demand_1}
 use Rattle.scanning.specs.declared.Reading.{Reading}

@@ -22,7 +22,8 @@ use Rattle.reached.specs.Reached.{State, record_of, state_in, answer_in, go, ans
 use Rattle.loaded.specs.Calls.{answers}
 use Rattle.several.specs.declared.Turn.{Turn}
 use Rattle.several.specs.declared.Went.{Went}
-use Rattle.several.specs.Several.{Handed, handed, said_of, hand_out, goes_on, Turned, turned, turn_with, turn_by, turn_of}
+use Rattle.several.specs.Several.{Handed, handed, said_of, hand_out, goes_on, Turned, turned, turn_with, turn_by}
+use Rattle.several.specs.Several.{turn_of}
 use Rattle.several.specs.Several.{Gone, gone, next_or, stops, go_on, several_of}
 use Rattle.calling.specs.Calling.{lengths_fit, kept, strode, after_steps, steps_record, steps_session}
 use Rattle.ffi.specs.Ffi.{steps_call}

@@ -14,7 +14,8 @@ use Rattle.register.specs.declared.Started.{Started}
 use Rattle.register.specs.declared.Opened.{Opened}
 use Rattle.register.specs.Register.{Fresh, opened, fresh_of, start_of}
 use Rattle.encoding.specs.Encoding.{encode, op_from, decode}
-use Rattle.packing.specs.Packing.{op_at, record_at, put_record, fresh_words, refused_by, reply_of, number_of, put_reply}
+use Rattle.packing.specs.Packing.{op_at, record_at, put_record, fresh_words, refused_by, reply_of, number_of}
+use Rattle.packing.specs.Packing.{put_reply}
 use Rattle.exchange.specs.Exchange.{words_room, Told, told}
 use Rattle.shortly.specs.Shortly.{seeks_of}
 use Rattle.calling.specs.Calling.{refusal, on_decoded, Strode, strode, stands_still, steps_session}

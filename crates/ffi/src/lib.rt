@@ -3,7 +3,8 @@
 // listing. `words` are 147: the counters and sixteen records (crate packing); `answer` is 3: the answer's name and
 // values, and for many steps two numbers more. Each call returns 0 or a refusal's number; a refusal changes nothing
 // but the answer; where the answer has another length, nothing at all is written. No call has a `requires`: wrong
-// lengths are refused 7, words that are no record's 8. include/ravencrumb.h declares the calls.
+// lengths are refused 7, words that are no record's 8. include/ravencrumb.h declares the calls; crate
+// ffi_c exports them.
 // Not here: the checks, answering and many steps (crate calling), a step that is no walk that moves on (crate
 // stepping), what the calls mean (crate register). Assumes nothing.
 #![tactic(auto)]

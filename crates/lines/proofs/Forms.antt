@@ -44,8 +44,8 @@ comma_cut (b ∷ s) h = by (eqb b 44) refl (λ k. comma_cut s k) h
 
 two_only : (s : List ℕ) (a b : ℕ) → two_in s ≡ Two.Are a b → s ≡ digits a ++ (44 ∷ digits b)
 unfolding two_in
-two_only s a b = by (ltb (comma_in s) (length s)) refl (number_in (take (comma_in s) s)) (number_in (drop (comma_in s + 1)
-    s))
+two_only s a b =
+    by (ltb (comma_in s) (length s)) refl (number_in (take (comma_in s) s)) (number_in (drop (comma_in s + 1) s))
     refl refl
   where
     by : (t : Bool) → ltb (comma_in s) (length s) ≡ t → (n m : Number) → number_in (take (comma_in s) s) ≡ n →

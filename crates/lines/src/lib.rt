@@ -16,14 +16,14 @@ use terms::{Answer, Op, Refusal};
 use text::Number;
 
 // Two numbers with a comma between them.
-#[derive(Drop)]
+#[derive(Clone, Copy)]
 pub enum Two {
     Are(u32, u32),
     Not,
 }
 
 // What a line without its byte 10 is.
-#[derive(Drop)]
+#[derive(Clone, Copy)]
 pub enum Line {
     Is(Call),
     Bad,

@@ -1,7 +1,7 @@
 -- Writing: a line, a pair, pairs, the listing: their bytes, their sizes, each store at its place.
 -- In order: a line; a pair; pairs; their size; the listing; each way out of `write`.
 -- Not here: the pairs that may be written (Pairs), how long a listing can be (Length). Assumes nothing.
-use Prim.Native.Nat.{ℕ, ◌+◌, ◌-◌, ◌*◌, ◌≤◌, ◌<◌}
+use Prim.Native.Nat.{ℕ, ◌+◌, ◌*◌, ◌≤◌, ◌<◌}
 use mathlib.Core.Path.{◌≡◌, refl, sym, ◌∙◌, ap}
 use mathlib.Core.List.{List, [], ◌∷◌, ◌++◌}
 use mathlib.Core.Bool.{Bool, true, false}
@@ -75,7 +75,8 @@ pub ruleset pair_sizes = (pair_size, width_fits, widths_fit)
 -- ---- pairs
 
 pairs_on : (ks vs : List ℕ) (i : ℕ) → length ks ≡ length vs → i < length ks →
-    pairs (drop i ks) (drop i vs) ≡ pair_of (get_or ks i 0) (get_or vs i 0) ++ pairs (drop (i + 1) ks) (drop (i + 1) vs)
+    pairs (drop i ks) (drop i vs) ≡
+    pair_of (get_or ks i 0) (get_or vs i 0) ++ pairs (drop (i + 1) ks) (drop (i + 1) vs)
 unfolding pairs
 pairs_on ks vs i e h = let k : i < length vs = omega arith in rw (drop-cons ks i 0 h, drop-cons vs i 0 k, add-one)
 
@@ -97,8 +98,8 @@ module _ (ks vs o l : List ℕ) (q p i : ℕ) (rest : Rest ks vs o l q p i) wher
       (omega (arith, rest.place, ap length (pairs_over ks vs i h)), rw (rest.bytes, pairs_over ks vs i h))
 
   module _ (same : length ks ≡ length vs) (h : i < length ks) where
-    on_length : p + length (pair_of (get_or ks i 0) (get_or vs i 0)) + length (pairs (drop (i + 1) ks) (drop (i + 1) vs)) ≡
-        q + length (pairs ks vs)
+    on_length : p + length (pair_of (get_or ks i 0) (get_or vs i 0)) +
+        length (pairs (drop (i + 1) ks) (drop (i + 1) vs)) ≡ q + length (pairs ks vs)
     on_length = omega (arith, rest.place, simp length-append at (ap length (pairs_on ks vs i same h)))
 
     pub pairs_room : (m n : ℕ) → q + length (pairs ks vs) ≤ m → n ≡ m →

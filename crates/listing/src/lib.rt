@@ -9,7 +9,7 @@ ghost use Rattle.text.specs.Text.{Puts};
 ghost use Rattle.listing.specs.Listing.{field_of, pair_of, pairs, head_of, body_of, listing_of};
 ghost use Rattle.listing.specs.Listing.{key_room, rising, good_pairs, done, write_of};
 
-#[derive(Drop)]
+#[derive(Clone, Copy)]
 pub enum Written {
     Length(usize),
     NoRoom,

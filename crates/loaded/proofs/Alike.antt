@@ -13,7 +13,8 @@ use Rattle.terms.specs.declared.Op.{Op}
 use Rattle.terms.specs.declared.Refusal.{Refusal}
 use Rattle.terms.specs.declared.Answer.{Answer}
 use Rattle.sixteen.specs.declared.Call.{Call}
-use Rattle.reached.specs.Reached.{State, stamp_of, who_of, asked_of, answer, Past, at, under_by, since_by, handed_by, note}
+use Rattle.reached.specs.Reached.{State, stamp_of, who_of, asked_of, answer, Past, at, under_by, since_by, handed_by}
+use Rattle.reached.specs.Reached.{note}
 use Rattle.reached.proofs.History.{at_same, at_other}
 use Rattle.loaded.specs.Made.{Alike}
 

@@ -36,7 +36,8 @@ use Rattle.loading.specs.Filing.{used, pred_of, prepared_nodes, filed_nodes, pre
 use Rattle.loading.specs.Filing.{filed_entries, filed_all}
 use Rattle.loading.proofs.Words.{pred_below}
 use Rattle.loading.proofs.Refusals.{lengths_fit}
-use Rattle.loading.proofs.Stores.{nodes_in, entries_in, nodes_with, entries_with, pred_next, put_off, new_off, new_newest}
+use Rattle.loading.proofs.Stores.{nodes_in, entries_in, nodes_with, entries_with, pred_next, put_off, new_off}
+use Rattle.loading.proofs.Stores.{new_newest}
 use Rattle.loaded.specs.Calls.{inserting, filing, inserted_so, filed_so, inserts, alone, Goes}
 use Rattle.loaded.proofs.Goes.{goes_none, goes_then, goes_as}
 use Rattle.loaded.proofs.Steps.{at, starts, steps_on, steps_numbered, walk_moves, walk_arrives, locks, checks}
@@ -180,7 +181,8 @@ module _ (z : Size) (i top k v : ℕ) (ns es : List ℕ) (F : Filed z i top ns e
 
   linked_fits : fits z linked_nodes laid_entries ≡ true
   linked_fits =
-      fits_as z laid_nodes laid_entries linked_nodes laid_entries (store_length 6 laid_nodes p 2 (i + 2)) refl laid_fits
+      fits_as z laid_nodes laid_entries linked_nodes laid_entries (store_length 6 laid_nodes p 2 (i + 2)) refl
+      laid_fits
 
   locked_else : (j l : ℕ) → j * 6 + l ≢ pred_of i * 6 + 3 → node_at locked j l ≡ node_at ns j l
   locked_else j l apart = put_off ns p 3 1 j l apart

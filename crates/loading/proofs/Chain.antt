@@ -171,7 +171,8 @@ module _ (ns es : List ℕ) where
   -- a register that was loaded holds the pairs of its listing, where its tables have room for them
   pub members : (ks vs : List ℕ) → length ks ≡ length vs → (length ks + 2) * 6 ≤ length ns →
       (2 * length ks + 1) * 4 ≤ length es →
-      Holds (nodes_in (filed_all 0 ks vs (fresh_tables ns es))) (entries_in (filed_all 0 ks vs (fresh_tables ns es))) ks vs
+      Holds (nodes_in (filed_all 0 ks vs (fresh_tables ns es)))
+      (entries_in (filed_all 0 ks vs (fresh_tables ns es))) ks vs
   members ks vs same rn re =
       holds (filed_all 0 ks vs (fresh_tables ns es)) ks vs same (head_leads ks vs same rn re)
       (row_all ks vs (fresh_nodes ns) (fresh_entries es) 0 same

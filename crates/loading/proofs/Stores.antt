@@ -49,7 +49,8 @@ module _ (ns : List ℕ) (n key value next : ℕ) where
       put_off ns n 0 key j l (omega arith)
 
   module _ (room : n * 6 + 5 < length ns) where
-    new_named : (l : ℕ) → l < 3 → node_at (new_node ns n key value next) n l ≡ node_at (named_node ns n key value next) n l
+    new_named : (l : ℕ) → l < 3 →
+        node_at (new_node ns n key value next) n l ≡ node_at (named_node ns n key value next) n l
     unfolding clear_node
     new_named l h =
         put_off _ n 5 0 n l (omega arith) ∙ put_off _ n 4 0 n l (omega arith) ∙ put_off _ n 3 0 n l (omega arith)

@@ -17,7 +17,7 @@ use scanning::Reading;
 use terms::Counters;
 
 // The counters of the register that was loaded, or a refusal: 7, 9 with its offset, or 10.
-#[derive(Drop)]
+#[derive(Clone, Copy)]
 pub enum Loaded {
     Register(Counters),
     BadTable,

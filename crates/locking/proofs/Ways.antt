@@ -59,7 +59,8 @@ module _ (z : Size) (ns : List ℕ) (c : Counters) (op : Op) (pred curr : ℕ) w
 
   module _ (m : ℕ) (in_table : pred < z.nodes) (mark : m ≡ removed_at ns pred) where
     pub insert_removed : (d : Moved) → (m ≡ 0 → ⊥)
-        → d ≡ moved (unlocked_both ns pred curr false) (works c op (again_of ns)) → d ≡ insert_check z ns c op pred curr
+        → d ≡ moved (unlocked_both ns pred curr false) (works c op (again_of ns))
+        → d ≡ insert_check z ns c op pred curr
     unfolding insert_check
     insert_removed d gone e = rw (lt-ltb _ _ in_table, ← mark, ne_eqb m 0 gone, e)
 

@@ -218,20 +218,20 @@ module _ (σ : State) (h : Past) (q low high : ℕ) (calls : List Call) (t n : �
   h₁ = begun_past σ h q low high calls
 
   start_reached : Reached small σ₁ h₁
-  start_reached = on E.reached (Call.Start q (Op.Op.Range low high)) E.in_words_lem.0
+  start_reached = on E.reached (Call.Start q (Op.Op.Range low high)) E.in_words.0
 
   end_reached : Reached small (run σ₁ calls) (past_of σ₁ h₁ calls)
-  end_reached = run_reached σ₁ h₁ start_reached calls E.in_words_lem.1
+  end_reached = run_reached σ₁ h₁ start_reached calls E.in_words.1
 
   began_by : stamp_of σ ≤ (past_of σ₁ h₁ calls).since q
-  began_by = since_stays σ₁ h₁ start_reached calls E.in_words_lem.1 q (stamp_of σ) (omega arith)
+  began_by = since_stays σ₁ h₁ start_reached calls E.in_words.1 q (stamp_of σ) (omega arith)
       (omega (arith, start_since σ h q (Op.Op.Range low high) _ E.started))
 
   query_moment : HadMoment σ h q low high calls t
   query_moment =
       let d = range_end (run σ₁ calls) (past_of σ₁ h₁ calls) end_reached (Call.Step q) low high t n E.still
       E.ended in
-      let w = met σ₁ h₁ start_reached calls E.in_words_lem.1 t (omega (arith, began_by, d.since_start)) d.by_now in
+      let w = met σ₁ h₁ start_reached calls E.in_words.1 t (omega (arith, began_by, d.since_start)) d.by_now in
       (w.0, w.1, d.keys ∙ ap (within key_of low high) w.2)
 
 -- ---- ONLY WORKING MAKES AN UPDATE COUNT

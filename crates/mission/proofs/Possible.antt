@@ -16,11 +16,15 @@ use Rattle.nodes.specs.Nodes.{named_node, clear_node}
 use Rattle.terms.specs.Terms
 use Rattle.terms.specs.Terms.{out_of_bounds, small, Name, name_of, Refuses}
 use Rattle.terms.specs.declared.Op.{Op}
-use Rattle.steps.specs.Steps.{Done, done, walk_step, free, lock_step, insert_meets, insert_check, linked_of, remove_check}
-use Rattle.steps.specs.Steps.{check_step, lay_in, insert_laid, remove_laid, insert_room, remove_room, held_at, prepare_step}
-use Rattle.steps.specs.Steps.{number_step, insert_link, remove_link, link_step, usable, finish_step, has_sees, newest_step}
+use Rattle.steps.specs.Steps.{Done, done, walk_step, free, lock_step, insert_meets, insert_check, linked_of}
+use Rattle.steps.specs.Steps.{remove_check}
+use Rattle.steps.specs.Steps.{check_step, lay_in, insert_laid, remove_laid, insert_room, remove_room, held_at}
+use Rattle.steps.specs.Steps.{prepare_step}
+use Rattle.steps.specs.Steps.{number_step, insert_link, remove_link, link_step, usable, finish_step, has_sees}
+use Rattle.steps.specs.Steps.{newest_step}
 use Rattle.steps.specs.Steps.{range_sees, follow_step, hand_step}
-use Rattle.register.specs.Register.{fits, fresh_nodes, fresh_entries, fresh_counters, fresh_of, bad_key, began, start_of}
+use Rattle.register.specs.Register.{fits, fresh_nodes, fresh_entries, fresh_counters, fresh_of, bad_key, began}
+use Rattle.register.specs.Register.{start_of}
 use Rattle.register.specs.Register.{step_of}
 use Rattle.sixteen.specs.declared.Register.{Register}
 use Rattle.sixteen.specs.declared.Call.{Call}
@@ -41,11 +45,11 @@ use Rattle.mission.proofs.Listed.{listed_moment}
 
 -- ---- every definition that a call computes with
 opened_up : ℕ
-unfolding word_of store_of look_of scan_of holds_up at_of newest_of held_of lay_of finish_of named_node clear_node out_of_bounds
-    walk_step free lock_step insert_meets insert_check linked_of remove_check check_step lay_in insert_laid remove_laid
-    insert_room
-    remove_room held_at prepare_step number_step insert_link remove_link link_step usable finish_step has_sees newest_step
-    range_sees follow_step hand_step fits fresh_nodes fresh_entries fresh_of bad_key began start_of step_of at
+unfolding word_of store_of look_of scan_of holds_up at_of newest_of held_of lay_of finish_of named_node clear_node
+    out_of_bounds walk_step free lock_step insert_meets insert_check linked_of remove_check check_step lay_in
+    insert_laid remove_laid insert_room remove_room held_at prepare_step number_step insert_link remove_link link_step
+    usable finish_step has_sees newest_step range_sees follow_step hand_step fits fresh_nodes fresh_entries fresh_of
+    bad_key began start_of step_of at
 opened_up = 0
 
 -- ---- registers on a run from the fresh one
@@ -71,7 +75,8 @@ refused calls words c word number e =
     (run begin calls, past_of begin no_past calls, c, runs calls words, in_words_lem c word, e)
 
 -- ---- Figure 1
-figure_updates : (past_of begin no_past figure_calls).updates ≡ remove 20 ∷ insert 10 9 ∷ insert 30 8 ∷ insert 20 7 ∷ []
+figure_updates : (past_of begin no_past figure_calls).updates
+    ≡ remove 20 ∷ insert 10 9 ∷ insert 30 8 ∷ insert 20 7 ∷ []
 unfolding opened_up
 figure_updates = refl
 
@@ -142,7 +147,7 @@ query_ends : Query
 unfolding opened_up
 query_ends = record {
   reached = begin_reached;
-  in_words_lem = (in_words_lem (Call.Start 1 whole) refl, all_in_words_lem meanwhile refl);
+  in_words = (in_words_lem (Call.Start 1 whole) refl, all_in_words_lem meanwhile refl);
   started = refl;
   still = refl;
   ended = refl;
@@ -157,8 +162,8 @@ loaded : Listed 1 query (replicate 16357 0) ((20, 7) ∷ [])
 loaded =
     let σ = begun begin no_past 1 1 4294967294 meanwhile in
     let h = begun_past begin no_past 1 1 4294967294 meanwhile in
-    let R = run_reached σ h (on begin_reached (Call.Start 1 whole) query_ends.in_words_lem.0) meanwhile
-    query_ends.in_words_lem.1 in
+    let R = run_reached σ h (on begin_reached (Call.Start 1 whole) query_ends.in_words.0) meanwhile
+    query_ends.in_words.1 in
     subst (Listed 1 query (replicate 16357 0)) query_list
     (listed_moment.any_range (run σ meanwhile) (past_of σ h meanwhile) R (Call.Step 1) 1 1 query_ends.ended
     (replicate 16357 0) (omega (arith, length-replicate {A = ℕ} 16357 0)))

@@ -41,7 +41,7 @@ module _ (σ : State) (h : Past) (q low high : ℕ) (calls : List Call) where
   -- and now its step ends it, with T and C
   pub record Ends (t n : ℕ) : Type 0 where
     pub reached : Reached small σ h
-    pub in_words_lem : InWords (Call.Start q (Op.Range low high)) × AllInWords calls
+    pub in_words : InWords (Call.Start q (Op.Range low high)) × AllInWords calls
     pub started : answer small σ (Call.Start q (Op.Range low high)) ≡ Answer.Started
     pub still : (past_of begun begun_past calls).under q ≡ Op.Range low high
     pub ended : answer small (run begun calls) (Call.Step q) ≡ Answer.End t n

@@ -67,7 +67,8 @@ module _ (z : Size) (ns es : List ℕ) (low high snapshot : ℕ) where
 
   abbrev next : ℕ → List ℕ → ℕ → ℕ → ℕ → ℕ → Handed
   next m ps handed count made to =
-      hand_on m z ns es low high snapshot (put_pair ps count (key_at ns to) (value_at ns to)) to (handed + 1) (count + 1)
+      hand_on m z ns es low high snapshot (put_pair ps count (key_at ns to) (value_at ns to)) to (handed + 1)
+      (count + 1)
       (made + 2)
 
   hand_within : (m : ℕ) (ps : List ℕ) (at handed count made : ℕ) → count ≤ made

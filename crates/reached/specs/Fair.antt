@@ -73,7 +73,7 @@ module _ (l : Lived) (q low high : ℕ) where
 
   pub record Begins : Type 0 where
     pub reached : Reached small l.state l.past
-    pub in_words_lem : InWords (Call.Start q (Op.Range low high))
+    pub in_words : InWords (Call.Start q (Op.Range low high))
     pub started : reply l (Call.Start q (Op.Range low high)) ≡ Answer.Started
 
   module _ (w : ℕ) (calls : List Call) where

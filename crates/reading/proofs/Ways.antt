@@ -15,7 +15,8 @@ use Rattle.terms.specs.declared.Op.{Op}
 use Rattle.terms.specs.declared.Answer.{Answer}
 use Rattle.steps.specs.declared.Phase.{Phase}
 use Rattle.steps.specs.declared.Stepped.{Stepped}
-use Rattle.steps.specs.Steps.{arrived_of, gives, works, waits, ends, damaged, walk_step, has_sees, newest_step, range_sees}
+use Rattle.steps.specs.Steps.{arrived_of, gives, works, waits, ends, damaged, walk_step, has_sees, newest_step}
+use Rattle.steps.specs.Steps.{range_sees}
 use Rattle.steps.specs.Steps.{follow_step, hand_step}
 
 -- ---- Walk

@@ -2,7 +2,8 @@
 -- In order: the tables' lengths; fresh; start (7, 1, 2, 3, 4); step (7, 1, 5, and 8 by the step); a call over sixteen
 -- records. `z` is the size, `ns` and `es` are the lent tables.
 -- Not here: the steps (crate steps). Assumes nothing.
-use Rattle.std.specs.Prelude.{ℕ, ◌*◌, List, Bool, true, false, cond, ◌&&◌, ◌||◌, length, get_or, set, replicate, ltb, eqb}
+use Rattle.std.specs.Prelude.{ℕ, ◌*◌, List, Bool, true, false, cond, ◌&&◌, ◌||◌, length, get_or, set, replicate, ltb}
+use Rattle.std.specs.Prelude.{eqb}
 use Rattle.table.specs.Table.{clear_of}
 use Rattle.bundle.specs.Bundle.{lay_of, finish_of}
 use Rattle.nodes.specs.Nodes.{put_node, next_at}

@@ -16,8 +16,8 @@ use Rattle.bundle.specs.Bundle.{look_of, scan_of, holds_up, at_of, held_of, lay_
 use Rattle.nodes.specs.Nodes.{put_node, named_node, clear_node}
 use Rattle.terms.specs.Terms.{small, tail_key, out_of_bounds}
 use Rattle.steps.specs.Steps.{walk_step, free, lock_step, insert_meets, insert_check, linked_of, check_step, lay_in}
-use Rattle.steps.specs.Steps.{insert_laid, insert_room, held_at, prepare_step, number_step, insert_link, link_step, usable}
-use Rattle.steps.specs.Steps.{finish_step, range_sees, follow_step, hand_step}
+use Rattle.steps.specs.Steps.{insert_laid, insert_room, held_at, prepare_step, number_step, insert_link, link_step}
+use Rattle.steps.specs.Steps.{usable, finish_step, range_sees, follow_step, hand_step}
 use Rattle.register.specs.Register.{fits, fresh_nodes, fresh_entries, fresh_counters, fresh_of, bad_key, began}
 use Rattle.register.specs.Register.{start_of, step_of}
 use Rattle.sixteen.specs.Sixteen.{fresh_register}

@@ -55,7 +55,8 @@ module _ (s : List ℕ) (p : ℕ) (inside : p < length s) where
   n : ℕ
   n = line_length (drop p s)
 
-  whole_begun : p + n < length s → Begun s p (record { line = line_in (take (p + n - p) (drop p s)); next = p + n + 1 })
+  whole_begun : p + n < length s →
+      Begun s p (record { line = line_in (take (p + n - p) (drop p s)); next = p + n + 1 })
   unfolding n lines_run
   whole_begun h =
       let cut : p + n - p ≡ n = omega arith in

@@ -97,7 +97,8 @@ line_first Line.Bad z ns es g next = begins_first _ (next ns es g)
 pub bad_only : (l : Line) (z : Size) (ns es : List ℕ) (g : Register) → line_out l z ns es g ≡ refused_line bad_line →
     l ≡ Line.Bad
 bad_only (Line.Is call) z ns es g e =
-    absurd (not_own _ (caller_of call) bad_line 51 [] [] thirteen_digits (omega arith) (ap (λ (x : List ℕ). x ++ []) e))
+    absurd (not_own _ (caller_of call) bad_line 51 [] [] thirteen_digits (omega arith)
+    (ap (λ (x : List ℕ). x ++ []) e))
 bad_only Line.Bad z ns es g e = refl
 
 pub bad_when : (z : Size) (ns es : List ℕ) (g : Register) → line_out Line.Bad z ns es g ≡ refused_line bad_line

@@ -22,7 +22,7 @@ use steps::{Session, Stepped};
 use terms::Counters;
 
 // How many bytes were written, or why none were: the output is too short, or a lent table has another length.
-#[derive(Drop)]
+#[derive(Clone, Copy)]
 pub enum Ended {
     Length(usize),
     NoRoom,
@@ -70,7 +70,7 @@ fn serve_one(nodes: &mut [u32], entries: &mut [u32], c: Counters, call: Call, s:
 }
 
 // What a turn leaves beside the tables and the output; `place` is the one after the answer.
-#[derive(Drop)]
+#[derive(Clone, Copy)]
 struct Turned {
     counters: Counters,
     session: Session,
@@ -114,7 +114,7 @@ fn room(n: usize) -> usize
 }
 
 // A line without its byte 10, and the place after both.
-#[derive(Drop)]
+#[derive(Clone, Copy)]
 struct Read {
     line: Line,
     next: usize,

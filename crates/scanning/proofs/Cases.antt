@@ -66,21 +66,25 @@ unfolding check_of scan_of edition_of lines_of ends class_of field_in starts_wit
 other_edition = refl
 
 pub leading_zero : check_of key_room (edition_1 ++ (stamp_00 ++ count_0)) ≡ Reading.BadListing 10
-unfolding check_of scan_of edition_of stamp_of lines_of ends class_of field_in starts_with number_in grows grow with_digit
+unfolding check_of scan_of edition_of stamp_of lines_of ends class_of field_in starts_with number_in
+    grows grow with_digit
 leading_zero = refl
 
 pub too_large : check_of key_room (edition_1 ++ (stamp_larger ++ count_0)) ≡ Reading.BadListing 10
-unfolding check_of scan_of edition_of stamp_of lines_of ends class_of field_in starts_with number_in grows grow with_digit
+unfolding check_of scan_of edition_of stamp_of lines_of ends class_of field_in starts_with number_in
+    grows grow with_digit
 too_large = refl
 
 -- a last line without byte 10 is refused at its own start
 pub unended : check_of key_room (edition_1 ++ (stamp_0 ++ (count_name ++ (48 ∷ [])))) ≡ Reading.BadListing 18
-unfolding check_of scan_of edition_of stamp_of lines_of ends class_of field_in starts_with number_in grows grow with_digit
+unfolding check_of scan_of edition_of stamp_of lines_of ends class_of field_in starts_with number_in
+    grows grow with_digit
 unended = refl
 
 -- where the input ends too early the offset is its length
 pub stops_early : check_of key_room (edition_1 ++ stamp_0) ≡ Reading.BadListing 18
-unfolding check_of scan_of edition_of stamp_of lines_of ends class_of field_in starts_with number_in grows grow with_digit
+unfolding check_of scan_of edition_of stamp_of lines_of ends class_of field_in starts_with number_in
+    grows grow with_digit
 stops_early = refl
 
 -- nothing follows count

@@ -101,7 +101,8 @@ field_is : (name : List ℕ) (n : ℕ) → (name ++ digits n) ++ (10 ∷ []) ≡
 unfolding field_of
 field_is name n = append_assoc name (digits n) (10 ∷ [])
 
-front_none : (x : List ℕ) (n : ℕ) → n ≤ largest → x ≡ field_of edition_name 1 → Front n 0 0 (x ++ field_of stamp_name n)
+front_none : (x : List ℕ) (n : ℕ) → n ≤ largest → x ≡ field_of edition_name 1 →
+    Front n 0 0 (x ++ field_of stamp_name n)
 unfolding head_of pairs rising
 front_none x n fits e =
     record {

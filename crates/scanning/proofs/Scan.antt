@@ -182,7 +182,8 @@ pub ruleset gathered = (gather_end, gather_torn, gather_all, gather_on, gather_i
 -- ---- each way out of `read`
 
 module _ (most : ℕ) (s ks vs : List ℕ) (r : Reading) (f : r ≡ check_of most s) where
-  pub read_whole : (a b : ℕ) (k v : List ℕ) → r ≡ Reading.Whole a b → k ≡ sets ks 0 (numbers_in key_name (lines_of s)) →
+  pub read_whole : (a b : ℕ) (k v : List ℕ) → r ≡ Reading.Whole a b →
+      k ≡ sets ks 0 (numbers_in key_name (lines_of s)) →
       v ≡ sets vs 0 (numbers_in value_name (lines_of s)) → done k v (Reading.Whole a b) ≡ read_of most s ks vs
   unfolding read_of
   read_whole a b k v e ek ev = rw (← f, e, ek, ev)

@@ -155,7 +155,8 @@ module _ (stamp : ℕ) (ks vs : List ℕ) (same : length ks ≡ length vs) where
 module _ (most stamp : ℕ) (ks vs : List ℕ) (small : most ≤ largest) (fs : stamp ≤ largest) (fv : Fit vs) where
   -- reading a listing gives its stamp, keys and values, and their number
   pub read_listing : (ko vo : List ℕ) → Good most ks vs →
-      read_of most (listing_of stamp ks vs) ko vo ≡ done (sets ko 0 ks) (sets vo 0 vs) (Reading.Whole stamp (length ks))
+      read_of most (listing_of stamp ks vs) ko vo ≡
+      done (sets ko 0 ks) (sets vo 0 vs) (Reading.Whole stamp (length ks))
   unfolding read_of
   read_listing ko vo good =
       rw (check_back most stamp ks vs small fs fv good)

@@ -14,7 +14,7 @@ ghost use Rattle.scanning.specs.Reading.{ended_of, turn_of, check_of, one, numbe
 use text::{Number, Seen};
 
 // What is to come: the edition, the stamp, a key or the count, a value, or nothing more.
-#[derive(Drop)]
+#[derive(Clone, Copy)]
 pub enum State {
     Edition,
     Stamp,
@@ -24,7 +24,7 @@ pub enum State {
 }
 
 // What a line makes of that.
-#[derive(Drop)]
+#[derive(Clone, Copy)]
 pub enum Next {
     On(State),
     Bad,
@@ -32,7 +32,7 @@ pub enum Next {
 }
 
 // The stamp and how many keys, or a refusal: 9 with its offset, or 10.
-#[derive(Drop)]
+#[derive(Clone, Copy)]
 pub enum Reading {
     Whole(u32, u32),
     BadListing(usize),
@@ -40,7 +40,7 @@ pub enum Reading {
 }
 
 // After one line: on with what is to come at a place, or the answer.
-#[derive(Drop)]
+#[derive(Clone, Copy)]
 pub enum Turn {
     Go(State, usize),
     Stop(Reading),

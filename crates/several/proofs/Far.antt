@@ -29,7 +29,8 @@ use Rattle.onward.specs.declared.Found.{Found}
 use Rattle.onward.specs.declared.Walked.{Walked}
 use Rattle.onward.specs.declared.Handing.{Handing}
 use Rattle.onward.specs.declared.Far.{Far}
-use Rattle.onward.specs.Onward.{course_of, below_at, walked_to, walk_on, in_range, on_taken, followed_to, has_room, put_pair}
+use Rattle.onward.specs.Onward.{course_of, below_at, walked_to, walk_on, in_range, on_taken, followed_to, has_room}
+use Rattle.onward.specs.Onward.{put_pair}
 use Rattle.onward.specs.Onward.{Handed, handed_to, handed_at, next_key, on_found, hand_on, Reach, reached, stays}
 use Rattle.onward.specs.Onward.{walk_far, hand_far, on_course, far_of}
 use Rattle.several.specs.Several.{Gone, turn_of, go_on}
@@ -220,8 +221,8 @@ module _ (z : Size) (who : ℕ) (ns es : List ℕ) (c : Counters) (op : Op) (len
             (count + 1) (made + 2)))
             → go_on (suc (suc m)) z who made ns es ps count c (session (Phase.Follow at snapshot handed))
             ≡ after_hand (on_found f
-            (λ to. hand_on m z ns es (sought_of op) (high_of op) snapshot (given ps count to) to (handed + 1) (count + 1)
-            (made + 2))
+            (λ to. hand_on m z ns es (sought_of op) (high_of op) snapshot (given ps count to) to (handed + 1)
+            (count + 1) (made + 2))
             (handed_to ps (handed_at at handed count made)))
         by (Found.At to) h rest =
             hand_one m made ps at handed count to

@@ -26,7 +26,7 @@ use Rattle.words.proofs.Back.{agree_back}
 use Rattle.pace.specs.Turns.{IsOpen, IsBusy}
 use Rattle.pace.proofs.Demand.{range_demand, range_sharp}
 use Rattle.pace.proofs.Project.{after_project, along_up, steps_project, fair_up, open_or_ended_down}
-use Rattle.starving.proofs.Reaches.{Reaches, calls-reach, words_front}
+use Rattle.starving.proofs.Reaches.{Reaches, calls_reach, words_front}
 use Rattle.starving.proofs.Last.{ends_right}
 use Rattle.starving.proofs.Live.{Live, reached_live, Walks, begins}
 use Rattle.starving.proofs.Where.{along_where, fair_where, open_or_ended_where}
@@ -137,7 +137,7 @@ module _ (key val : ℕ → ℕ) (zeroth : key head ≡ 0) (q low high w : ℕ) 
 
 -- ---- that register: key and value functions are the words at the end of the calls
 module _ (l : Lived) (q low high : ℕ) (B : Begins l q low high) (w : ℕ) (calls : List Call)
-    (All-words : AllInWords calls) where
+    (all_words : AllInWords calls) where
   abbrev first : Lived
   first = begun l q low high
 
@@ -155,15 +155,15 @@ module _ (l : Lived) (q low high : ℕ) (B : Begins l q low high) (w : ℕ) (cal
       (agrees_first key val first calls agrees))
 
   walks : Walks key val before q low high
-  walks = begins key val before q low high B.in_words_lem B.started
+  walks = begins key val before q low high B.in_words B.started
 
   good : Along (goes key val) (Good key val) (live walks.0) calls
-  good = good_along key val (live walks.0) calls tt All-words agrees
+  good = good_along key val (live walks.0) calls tt all_words agrees
 
   -- its last call
   reached_till : (d : Ended go_on (Open q low high) first calls) → Reaches (after go_on first d.lived)
-  reached_till d = calls-reach first (on B.reached (Call.Start q (Op.Range low high)) B.in_words_lem) d.lived
-      (words_front d.lived (d.last ∷ d.later) (rw d.whole at All-words))
+  reached_till d = calls_reach first (on B.reached (Call.Start q (Op.Range low high)) B.in_words) d.lived
+      (words_front d.lived (d.last ∷ d.later) (rw d.whole at all_words))
 
   ended : EndsWell l q low high w calls
   ended d =

@@ -15,7 +15,7 @@ use Rattle.reached.specs.Reached.{InWords, on}
 use Rattle.reached.specs.Fair.{Lived, go_on, reply, whose, Busy, given, AllInWords}
 use Rattle.reached.proofs.Tested.{all_in_words_lem}
 use Rattle.fairness.specs.Calls.{after, Along, steps, Fair}
-use Rattle.starving.proofs.Reaches.{Reaches, calls-reach}
+use Rattle.starving.proofs.Reaches.{Reaches, calls_reach}
 use Rattle.starving.proofs.Tested.{passes_test, tested_fair}
 use Rattle.starving.proofs.Waits.{opened_up, begin, begin_reached}
 
@@ -54,7 +54,7 @@ calls = Call.Step 1 ∷ Call.Step 1 ∷ Call.Start 1 (Op.Insert 5 7) ∷ Call.St
     ∷ (replicate 3 (Call.Step 1) ++ (threes ++ again))
 
 locked_reached : Reaches locked
-locked_reached = calls-reach begin begin_reached first (all_in_words_lem first refl)
+locked_reached = calls_reach begin begin_reached first (all_in_words_lem first refl)
 
 has_started : reply locked (Call.Start 0 (Op.Has 9)) ≡ Answer.Started
 unfolding opened_up

@@ -31,7 +31,8 @@ use Rattle.drawing.specs.Steps.{follow_on, follow_in, follow_end, hand_out}
 use Rattle.drawing.proofs.Change.{change_same, change_other}
 use Rattle.drawing.proofs.Inv.{Inv}
 use Rattle.drawing.proofs.Room.{distinct_length, used_below, on_used}
-use Rattle.drawing.proofs.Given.{Listed, listed_step, listed_start, listed_beginning, nodes_of, nodes_length, nodes_mem}
+use Rattle.drawing.proofs.Given.{Listed, listed_step, listed_start, listed_beginning, nodes_of, nodes_length}
+use Rattle.drawing.proofs.Given.{nodes_mem}
 use Rattle.words.proofs.Show.{Agrees, op_word, Shown, out_word, waited, stepped, Advanced, shown_inv}
 use Rattle.words.proofs.Land.{used_of, Early}
 use Rattle.words.proofs.Back.{agree_back}

@@ -51,7 +51,7 @@ round_fair l r w k m w≥16 = robin_fair Call.Step 16 go_on whose Busy w k m l w
 module _ (l : Lived) (q low high : ℕ) (B : Begins l q low high) (w k m : ℕ) (w≥16 : 16 ≤ w) where
   pub premise : FairFor l q low high w (round k m)
   premise = fair_while go_on whose (Open q low high) Busy w (begun l q low high) (round k m)
-      (round_fair (begun l q low high) (on B.reached (Call.Start q (Op.Range low high)) B.in_words_lem) w k m w≥16)
+      (round_fair (begun l q low high) (on B.reached (Call.Start q (Op.Range low high)) B.in_words) w k m w≥16)
 
   pub served_in_turn : InTime l q low high w (round k m) × EndsWell l q low high w (round k m)
   served_in_turn = demand_3.in_time l q low high B w (round k m) (round_words k m) premise

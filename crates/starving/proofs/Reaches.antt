@@ -11,9 +11,9 @@ use Rattle.fairness.specs.Calls.{after, Along}
 abbrev pub Reaches : Lived → Type 0
 Reaches l = Reached small l.state l.past
 
-pub calls-reach : (l : Lived) → Reaches l → (calls : List Call) → AllInWords calls → Reaches (after go_on l calls)
-calls-reach l r [] words = r
-calls-reach l r (c ∷ calls) words = calls-reach (go_on l c) (on r c words.0) calls words.1
+pub calls_reach : (l : Lived) → Reaches l → (calls : List Call) → AllInWords calls → Reaches (after go_on l calls)
+calls_reach l r [] words = r
+calls_reach l r (c ∷ calls) words = calls_reach (go_on l c) (on r c words.0) calls words.1
 
 pub along_reach : (l : Lived) → Reaches l → (calls : List Call) → AllInWords calls → Along go_on Reaches l calls
 along_reach l r [] words = r

@@ -16,7 +16,7 @@ use Rattle.reached.specs.Fair.{Lived, go_on, whose, Busy, AllInWords}
 use Rattle.fairness.specs.Calls.{after, Fair}
 use Rattle.fairness.proofs.Along.{along_here, along_map}
 use Rattle.words.proofs.Whole.{reached_shown}
-use Rattle.starving.proofs.Reaches.{Reaches, calls-reach, words_front}
+use Rattle.starving.proofs.Reaches.{Reaches, calls_reach, words_front}
 use Rattle.starving.proofs.Words.{busy_drawn}
 use Rattle.starving.proofs.Spaced.{true_false, spaced, spaced_serves}
 
@@ -64,7 +64,7 @@ pub tested_fair : (w : ℕ) → 0 < w → (l : Lived) → Reaches l → (calls :
 tested_fair w some_w l reached calls words passes before row rest whole many i throughout =
     let τ = after go_on l before in
     let words_before = words_front before (row ++ rest) (subst AllInWords whole words) in
-    let i<16 = no_other τ (calls-reach l reached before words_before) i
+    let i<16 = no_other τ (calls_reach l reached before words_before) i
     (along_here go_on (λ x. Busy x i) τ row throughout) in
     spaced_serves go_on whose busy_in w i some_w l calls
     (below_all 16 (λ j. spaced go_on whose busy_in w j 0 l calls) passes i i<16) before row rest whole many

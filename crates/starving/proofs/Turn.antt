@@ -83,7 +83,7 @@ module _ (l : Lived) (q low high : ℕ) (B : Begins l q low high) (k j : ℕ) wh
   start = begun l q low high
 
   reached : Along go_on Reaches start (round k (16 * j))
-  reached = along_reach start (on B.reached (Call.Start q (Op.Range low high)) B.in_words_lem) (round k (16 * j))
+  reached = along_reach start (on B.reached (Call.Start q (Op.Range low high)) B.in_words) (round k (16 * j))
       (round_words k (16 * j))
 
   busy_served : (τ : Lived) → Reaches τ × Open q low high τ → Served q τ

@@ -14,11 +14,15 @@ use Rattle.nodes.specs.Nodes.{named_node, clear_node}
 use Rattle.terms.specs.Terms.{out_of_bounds}
 use Rattle.terms.specs.declared.Op.{Op}
 use Rattle.terms.specs.declared.Answer.{Answer}
-use Rattle.steps.specs.Steps.{walk_step, free, lock_step, insert_meets, insert_check, linked_of, remove_check, check_step}
-use Rattle.steps.specs.Steps.{lay_in, insert_laid, remove_laid, insert_room, remove_room, held_at, prepare_step, number_step}
-use Rattle.steps.specs.Steps.{insert_link, remove_link, link_step, usable, finish_step, has_sees, newest_step, range_sees}
+use Rattle.steps.specs.Steps.{walk_step, free, lock_step, insert_meets, insert_check, linked_of, remove_check}
+use Rattle.steps.specs.Steps.{check_step}
+use Rattle.steps.specs.Steps.{lay_in, insert_laid, remove_laid, insert_room, remove_room, held_at, prepare_step}
+use Rattle.steps.specs.Steps.{number_step}
+use Rattle.steps.specs.Steps.{insert_link, remove_link, link_step, usable, finish_step, has_sees, newest_step}
+use Rattle.steps.specs.Steps.{range_sees}
 use Rattle.steps.specs.Steps.{follow_step, hand_step}
-use Rattle.register.specs.Register.{fits, fresh_nodes, fresh_entries, fresh_counters, fresh_of, bad_key, began, start_of}
+use Rattle.register.specs.Register.{fits, fresh_nodes, fresh_entries, fresh_counters, fresh_of, bad_key, began}
+use Rattle.register.specs.Register.{start_of}
 use Rattle.register.specs.Register.{step_of}
 use Rattle.sixteen.specs.Sixteen.{fresh_register}
 use Rattle.sixteen.specs.declared.Call.{Call}
@@ -29,16 +33,17 @@ use Rattle.reached.proofs.Tested.{in_words_lem, all_in_words_lem}
 use Rattle.fairness.specs.Calls.{after, steps}
 use Rattle.fairness.proofs.Ended.{fair_while}
 use Rattle.starving.proofs.Demand3.{demand_3}
-use Rattle.starving.proofs.Reaches.{Reaches, calls-reach}
+use Rattle.starving.proofs.Reaches.{Reaches, calls_reach}
 use Rattle.starving.proofs.Tested.{passes_test, tested_fair}
 use Rattle.starving.proofs.Possible.{round, premise, served_in_turn}
 
 -- ---- every definition that a call computes with
 unfoldable pub opened_up : ℕ
-unfolding word_of store_of look_of scan_of holds_up at_of newest_of held_of lay_of finish_of named_node clear_node out_of_bounds
-    walk_step free lock_step insert_meets insert_check linked_of remove_check check_step lay_in insert_laid remove_laid
-    insert_room remove_room held_at prepare_step number_step insert_link remove_link link_step usable finish_step has_sees
-    newest_step range_sees follow_step hand_step fits fresh_nodes fresh_entries fresh_of bad_key began start_of step_of at
+unfolding word_of store_of look_of scan_of holds_up at_of newest_of held_of lay_of finish_of named_node clear_node
+    out_of_bounds walk_step free lock_step insert_meets insert_check linked_of remove_check check_step lay_in
+    insert_laid remove_laid insert_room remove_room held_at prepare_step number_step insert_link remove_link link_step
+    usable finish_step has_sees newest_step range_sees follow_step hand_step fits fresh_nodes fresh_entries fresh_of
+    bad_key began start_of step_of at
 opened_up = 0
 
 -- ---- session 0 inserts 20 = 7 and has prepared; then session 1 starts a range
@@ -85,7 +90,7 @@ unfolding fresh_of fits
 begin_reached = fresh (replicate 3072 0) (replicate 8192 0) _ _ fresh_counters refl
 
 prepared_reached : Reaches prepared
-prepared_reached = calls-reach begin begin_reached preparing (all_in_words_lem preparing refl)
+prepared_reached = calls_reach begin begin_reached preparing (all_in_words_lem preparing refl)
 
 asked_started : reply prepared (Call.Start 1 (Op.Range 1 100)) ≡ Answer.Started
 unfolding opened_up
@@ -95,7 +100,7 @@ range_words : InWords (Call.Start 1 (Op.Range 1 100))
 range_words = in_words_lem (Call.Start 1 (Op.Range 1 100)) refl
 
 asked_begins : Begins prepared 1 1 100
-asked_begins = record { reached = prepared_reached; in_words_lem = range_words; started = asked_started }
+asked_begins = record { reached = prepared_reached; in_words = range_words; started = asked_started }
 
 pub in_turn_fair : FairFor prepared 1 1 100 16 (round 1 81)
 in_turn_fair = premise prepared 1 1 100 asked_begins 16 1 81 (omega arith)
@@ -137,7 +142,7 @@ unfolding opened_up
 whole_case_allowed = refl
 
 halfway_reached : Reaches halfway
-halfway_reached = calls-reach begin begin_reached lines (all_in_words_lem lines refl)
+halfway_reached = calls_reach begin begin_reached lines (all_in_words_lem lines refl)
 
 again_started : reply halfway (Call.Start 1 (Op.Range 1 100)) ≡ Answer.Started
 unfolding opened_up
@@ -151,7 +156,7 @@ unfolding opened_up
 rest_passes = refl
 
 again_begins : Begins halfway 1 1 100
-again_begins = record { reached = halfway_reached; in_words_lem = range_words; started = again_started }
+again_begins = record { reached = halfway_reached; in_words = range_words; started = again_started }
 
 pub whole_case_fair : FairFor halfway 1 1 100 4 rest
 whole_case_fair = fair_while go_on whose (Open 1 1 100) Busy 4 asked_again rest

@@ -13,7 +13,8 @@ use Rattle.register.specs.Register.{step_of}
 use Rattle.encoding.specs.declared.Words.{Words}
 use Rattle.encoding.specs.Encoding.{encode, decode}
 use Rattle.packing.specs.declared.Reply.{Reply}
-use Rattle.packing.specs.Packing.{counters_at, put_counters, record_at, put_two, put_record, reply_of, number_of, put_reply}
+use Rattle.packing.specs.Packing.{counters_at, put_counters, record_at, put_two, put_record, reply_of, number_of}
+use Rattle.packing.specs.Packing.{put_reply}
 use Rattle.exchange.specs.Exchange.{Left, left, stays}
 use Rattle.closing.specs.Told.{finish_answer}
 use Rattle.calling.specs.Calling.{lengths_fit, on_decoded, kept}
@@ -21,7 +22,8 @@ use Rattle.calling.specs.Calling.{lengths_fit, on_decoded, kept}
 -- what start, step and steps check first, in this order: an answer of another length stays as it is; 7; 1
 abbrev pub checked : {A : Type 0} → ℕ → Size → List ℕ → List ℕ → List ℕ → List ℕ → ℕ → A → (ℕ → A) → A → A
 checked room z ns es ws out who silent refused goes =
-    cond (eqb (length out) room) (cond (lengths_fit z ns es ws) (cond (ltb who 16) goes (refused 1)) (refused 7)) silent
+    cond (eqb (length out) room) (cond (lengths_fit z ns es ws) (cond (ltb who 16) goes (refused 1)) (refused 7))
+    silent
 
 -- what has passed these checks
 abbrev pub IsAdmitted : Size → List ℕ → List ℕ → List ℕ → List ℕ → ℕ → Type 0

@@ -8,7 +8,8 @@ use Rattle.std.specs.Prelude.{ℕ, ◌+◌, List, Bool, true, false, cond, ◌&&
 use Rattle.bundle.specs.Bundle.{at_of, newest_of, held_of, lay_of, finish_of}
 use Rattle.bundle.specs.declared.Read.{Read}
 use Rattle.bundle.specs.declared.Held.{Held}
-use Rattle.nodes.specs.Nodes.{put_node, key_at, value_at, next_at, lock_at, removed_at, newest_at, unlocked, unlocked_both}
+use Rattle.nodes.specs.Nodes.{put_node, key_at, value_at, next_at, lock_at, removed_at, newest_at, unlocked}
+use Rattle.nodes.specs.Nodes.{unlocked_both}
 use Rattle.nodes.specs.Nodes.{new_node}
 use Rattle.terms.specs.Terms.{sought_of, high_of, value_of, removes_of, names_of}
 use Rattle.terms.specs.declared.Size.{Size}

@@ -57,7 +57,8 @@ unfolding lines_of ends class_of plain
 lines_plain [] r p = refl
 lines_plain (b ∷ l) r p = by (ends b) (lines_plain l r) p
   where
-    by : (t : Bool) → (plain l ≡ true → lines_of (l ++ (10 ∷ r)) ≡ line l (lines_of r)) → cond t false (plain l) ≡ true →
+    by : (t : Bool) → (plain l ≡ true → lines_of (l ++ (10 ∷ r)) ≡ line l (lines_of r)) →
+        cond t false (plain l) ≡ true →
         cond t (line [] (lines_of (l ++ (10 ∷ r)))) (joined b (lines_of (l ++ (10 ∷ r)))) ≡ line (b ∷ l) (lines_of r)
     by true ih q = impossible (cc)
     by false ih q = rw (ih q)

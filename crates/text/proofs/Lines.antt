@@ -41,7 +41,8 @@ module _ (s : List ℕ) (w i : ℕ) (inv : w ≡ i + line_length (drop i s)) whe
   unfolding line_length
   stop_here t h e y = rw (inv, drop-cons s i 0 h, ← e, y, add-zero)
 
-  pub go_on : (t : Bool) → i < length s → t ≡ ends (get_or s i 0) → t ≡ false → w ≡ i + 1 + line_length (drop (i + 1) s)
+  pub go_on : (t : Bool) → i < length s → t ≡ ends (get_or s i 0) → t ≡ false →
+      w ≡ i + 1 + line_length (drop (i + 1) s)
   unfolding line_length
   go_on t h e y = rw (inv, drop-cons s i 0 h, ← e, y, add-one) (omega arith)
 
@@ -69,7 +70,8 @@ lines_cut [] h = absurd (omega arith)
 lines_cut (b ∷ s) h = by (ends b) (λ k. lines_cut s k) h
   where
     by : (t : Bool) →
-        (line_length s < length s → lines_of s ≡ line (take (line_length s) s) (lines_of (drop (suc (line_length s)) s))) →
+        (line_length s < length s →
+        lines_of s ≡ line (take (line_length s) s) (lines_of (drop (suc (line_length s)) s))) →
         cond t 0 (suc (line_length s)) < suc (length s) →
         cond t (line [] (lines_of s)) (joined b (lines_of s)) ≡
         line (take (cond t 0 (suc (line_length s))) (b ∷ s))

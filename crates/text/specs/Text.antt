@@ -2,7 +2,8 @@
 -- In order: a byte; reading a number; writing one; lines; a line's name and number.
 -- Not here: which names there are and the order of lines (the listing's), commas (the runner's).
 -- Assumes nothing.
-use Rattle.std.specs.Prelude.{ℕ, zero, suc, ◌+◌, ◌-◌, ◌*◌, ◌/◌, ◌%◌, List, [], ◌∷◌, ◌++◌, Bool, true, false, cond, ◌≡◌, length, drop, ltb, leb, eqb}
+use Rattle.std.specs.Prelude.{ℕ, zero, suc, ◌+◌, ◌-◌, ◌*◌, ◌/◌, ◌%◌, List, [], ◌∷◌, ◌++◌, length, drop}
+use Rattle.std.specs.Prelude.{Bool, true, false, cond, ◌≡◌, ltb, leb, eqb}
 use Rattle.std.proofs.lemmas.List.Edits.{sets}
 use Rattle.text.specs.declared.Byte.{Byte}
 use Rattle.text.specs.declared.Number.{Number}

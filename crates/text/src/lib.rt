@@ -11,7 +11,7 @@ ghost use Rattle.text.specs.Text.{class_of, ends, with_digit, grow, number_in, d
 ghost use Rattle.text.specs.Text.{seen, lines_of, line_length, starts_with, field_in};
 
 // What a byte is in a number or a line.
-#[derive(Drop)]
+#[derive(Clone, Copy)]
 pub enum Byte {
     Digit(u32),
     LineEnd,
@@ -19,14 +19,14 @@ pub enum Byte {
 }
 
 // What a whole row of bytes is.
-#[derive(Drop)]
+#[derive(Clone, Copy)]
 pub enum Number {
     Is(u32),
     Not,
 }
 
 // What the first bytes of a row are as a number: nothing yet, a number, or none.
-#[derive(Drop)]
+#[derive(Clone, Copy)]
 pub enum Partial {
     Empty,
     Is(u32),
@@ -34,7 +34,7 @@ pub enum Partial {
 }
 
 // What stands at a place: the input's end, a line without its line end, or a line with its line end at a place.
-#[derive(Drop)]
+#[derive(Clone, Copy)]
 pub enum Seen {
     End,
     Torn,

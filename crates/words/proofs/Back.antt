@@ -14,7 +14,8 @@ use Rattle.order.proofs.Tests.{cond_cases}
 use Rattle.bundle.specs.Bundle.{at_of, newest_of}
 use Rattle.bundle.specs.declared.Read.{Read}
 use Rattle.bundle.specs.declared.Held.{Held}
-use Rattle.nodes.specs.Nodes.{node_at, put_node, key_at, next_at, lock_at, removed_at, newest_at, unlocked, unlocked_both}
+use Rattle.nodes.specs.Nodes.{node_at, put_node, key_at, next_at, lock_at, removed_at, newest_at, unlocked}
+use Rattle.nodes.specs.Nodes.{unlocked_both}
 use Rattle.nodes.specs.Nodes.{named_node, clear_node, new_node}
 use Rattle.terms.specs.Terms.{sought_of, high_of, value_of, removes_of}
 use Rattle.terms.specs.declared.Size.{Size}
@@ -24,9 +25,12 @@ use Rattle.steps.specs.declared.Phase.{Phase}
 use Rattle.steps.specs.declared.Session.{Session}
 use Rattle.steps.specs.declared.Stepped.{Stepped}
 use Rattle.steps.specs.Steps.{Done, done, Moved, moved, over, act_step, busy_of}
-use Rattle.steps.specs.Steps.{walk_step, lock_step, insert_meets, insert_check, remove_check, check_step, lay_in, insert_laid}
-use Rattle.steps.specs.Steps.{remove_laid, insert_room, remove_room, held_at, held_either, on_held, prepare_step, number_step}
-use Rattle.steps.specs.Steps.{insert_link, remove_link, link_step, finish_step, has_sees, on_read, newest_step, range_sees}
+use Rattle.steps.specs.Steps.{walk_step, lock_step, insert_meets, insert_check, remove_check, check_step, lay_in}
+use Rattle.steps.specs.Steps.{insert_laid}
+use Rattle.steps.specs.Steps.{remove_laid, insert_room, remove_room, held_at, held_either, on_held, prepare_step}
+use Rattle.steps.specs.Steps.{number_step}
+use Rattle.steps.specs.Steps.{insert_link, remove_link, link_step, finish_step, has_sees, on_read, newest_step}
+use Rattle.steps.specs.Steps.{range_sees}
 use Rattle.steps.specs.Steps.{follow_step, hand_step, locked_of, free, linked_of, usable}
 use Rattle.register.specs.Register.{fits, step_of}
 use Rattle.sixteen.specs.declared.Call.{Call}

@@ -17,8 +17,10 @@ use Rattle.terms.specs.Terms.{small, out_of_bounds}
 use Rattle.terms.specs.declared.Op.{Op}
 use Rattle.terms.specs.declared.Answer.{Answer}
 use Rattle.steps.specs.Steps.{walk_step, free, lock_step, insert_meets, insert_check, check_step, lay_in, insert_laid}
-use Rattle.steps.specs.Steps.{insert_room, held_at, prepare_step, number_step, insert_link, link_step, usable, finish_step}
-use Rattle.register.specs.Register.{fits, fresh_nodes, fresh_entries, fresh_counters, fresh_of, bad_key, began, start_of}
+use Rattle.steps.specs.Steps.{insert_room, held_at, prepare_step, number_step, insert_link, link_step, usable}
+use Rattle.steps.specs.Steps.{finish_step}
+use Rattle.register.specs.Register.{fits, fresh_nodes, fresh_entries, fresh_counters, fresh_of, bad_key, began}
+use Rattle.register.specs.Register.{start_of}
 use Rattle.register.specs.Register.{step_of}
 use Rattle.sixteen.specs.Sixteen.{fresh_register}
 use Rattle.sixteen.specs.declared.Call.{Call}
@@ -53,9 +55,9 @@ reached (suc n) = on (reached n) (Call.Step 0) tt
 
 -- ---- the seventh step answers inserted 1
 pub inserted_one : answer small (after 6) (Call.Step 0) ≡ Answer.Inserted 1
-unfolding fresh_nodes fresh_entries fits bad_key began start_of step_of out_of_bounds word_of store_of lay_of finish_of held_of
-    named_node clear_node walk_step free lock_step insert_meets insert_check check_step lay_in insert_laid insert_room
-    held_at prepare_step number_step insert_link link_step usable finish_step
+unfolding fresh_nodes fresh_entries fits bad_key began start_of step_of out_of_bounds word_of store_of lay_of
+    finish_of held_of named_node clear_node walk_step free lock_step insert_meets insert_check check_step lay_in
+    insert_laid insert_room held_at prepare_step number_step insert_link link_step usable finish_step
 inserted_one = refl
 
 -- ---- so it is update number 1, made after the start, and its key was absent before it

@@ -223,7 +223,8 @@ fresh_is ns es nodes entries key val A =
 
 pub fresh_shows : (ns es ns' es' : List ℕ) (c : Counters) → fresh_of small ns es ≡ opened ns' es' (Opened.Ready c)
     → (key val : ℕ → ℕ) → Agrees key val c.nodes ns'
-    → Shown small key val (record { nodes = ns'; entries = es'; register = fresh_register c }) no_past (beginning empty)
+    → Shown small key val (record { nodes = ns'; entries = es'; register = fresh_register c }) no_past
+    (beginning empty)
 fresh_shows ns es ns' es' c e key val A =
     let R = ready small ns es ns' es' c e in
     rw (R.nodes, R.entries, R.counters)

@@ -227,8 +227,8 @@ module _ (key val : ℕ → ℕ) (σ : State) (h : Past) (m : Drawing) (S : Show
         → (low high : ℕ) × (h.under (who_of c) ≡ Op.Op.Range low high) × RangeIs σ h (who_of c) low high t n
     end_is t n a = go (says_of (Answer.End t n) a)
       where
-        go : Says key val σ m (who_of c) (Answer.End t n) → (low high : ℕ) × (h.under (who_of c) ≡ Op.Op.Range low high)
-            × RangeIs σ h (who_of c) low high t n
+        go : Says key val σ m (who_of c) (Answer.End t n)
+            → (low high : ℕ) × (h.under (who_of c) ≡ Op.Op.Range low high) × RangeIs σ h (who_of c) low high t n
         go (below, (given, many, (low, high, x, here, A))) =
             let handed : h.handed (who_of c) ≡ given = handed_is (who_of c) (following low high x t given) here in (
               low,

@@ -13,7 +13,8 @@ use native.Mathlib.Omega.{arith}
 use lib.ListN.{length}
 use borrow.Author.Tests.{eq-eqb, ne_eqb}
 use Rattle.table.proofs.Laws.{word_stored, word_else, store_length}
-use Rattle.nodes.specs.Nodes.{node_at, put_node, key_at, value_at, next_at, lock_at, removed_at, newest_at, unlocked_both}
+use Rattle.nodes.specs.Nodes.{node_at, put_node, key_at, value_at, next_at, lock_at, removed_at, newest_at}
+use Rattle.nodes.specs.Nodes.{unlocked_both}
 use Rattle.nodes.specs.Nodes.{named_node, clear_node, new_node}
 use Rattle.order.specs.Set.{Update, insert, remove}
 use Rattle.terms.specs.Terms.{removes_of}

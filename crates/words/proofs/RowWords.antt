@@ -126,7 +126,8 @@ module _ (size used laid : ℕ) (ns es : List ℕ) (own : ℕ → List ℕ) (m :
           (unowned y h) (R.shows y h))
     ]
 
-    pub lay_rows : Rows size used (laid + 1) (put_node ns x 5 (laid + 1)) (lay_of es laid g c (newest_at ns x)) laid_own
+    pub lay_rows : Rows size used (laid + 1) (put_node ns x 5 (laid + 1)) (lay_of es laid g c (newest_at ns x))
+        laid_own
         (bundled m (change m.bundle x (pending t c g r)))
     lay_rows = record {
       shows = laid_shows;

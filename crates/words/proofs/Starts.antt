@@ -98,8 +98,8 @@ module _ (key val : ℕ → ℕ) (low : key head ≡ 0) (high : key tail ≡ tai
   abbrev Drawn : Op.Op → Type 0
   Drawn op = (d : Op) × (op_word d ≡ op) × Fine key val d
 
-  drawn : (op : Op.Op) → bad_key op ≡ false → sought_of op ≤ high_of op → sought_of op ≤ tail_key → high_of op ≤ tail_key
-      → Drawn op
+  drawn : (op : Op.Op) → bad_key op ≡ false → sought_of op ≤ high_of op → sought_of op ≤ tail_key
+      → high_of op ≤ tail_key → Drawn op
   drawn Op.Op.None bad order w w₂ = let b = key_bounds Op.Op.None bad in absurd (omega (arith, b.0.0))
   drawn (Op.Op.Insert k v) bad order w w₂ = let b = key_bounds (Op.Op.Insert k v) bad in
       (upd (insert k v), refl, (omega (arith, b.0.0, low), omega (arith, b.0.1, w, high)))

@@ -14,5 +14,5 @@ hand_far_spec =
     (λ c. search rules)
     (λ c.
     let h = c.before.before in
-    hand_so_far _ _ _ _ _ _ _ _ _ _ _ _ _ _ _ h.before.before.before.sought.ensures
-    h.before.before.high.ensures h.hand_on.ensures))
+    hand_so_far _ _ _ _ _ _ _ _ _ _ _ _ _ _ _ h.before.before.before.sought-low.ensures
+    h.before.before.high-high.ensures h.hand_on-h.ensures))

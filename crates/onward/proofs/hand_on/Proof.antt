@@ -18,7 +18,8 @@ invariant-loop nodes entries pairs₀ low high snapshot most at₀ handed₀ cou
     (most < 4294967295) × (length pairs ≡ length pairs₀)
 
 abbrev decreases-loop : tie.decreases-loop-made
-decreases-loop nodes entries pairs₀ low high snapshot most at₀ handed₀ count₀ made₀ pairs at handed count made = most - made
+decreases-loop nodes entries pairs₀ low high snapshot most at₀ handed₀ count₀ made₀ pairs at handed count made =
+    most - made
 
 pub hand_on_spec : {M : Type 1} → statement M
 hand_on_spec =

@@ -10,7 +10,8 @@ use Rattle.scanning.proofs.check.Statement.{statement}
 use Rattle.scanning.proofs.check.Tie as tie
 
 abbrev invariant-loop : tie.invariant-loop-t
-invariant-loop most input st₀ place₀ st place = check_of most input ≡ scan_of most place st (lines_of (drop place input))
+invariant-loop most input st₀ place₀ st place =
+    check_of most input ≡ scan_of most place st (lines_of (drop place input))
 
 abbrev decreases-loop : tie.decreases-loop-t
 decreases-loop most input st₀ place₀ st place = length input - place
