@@ -1,7 +1,7 @@
 // Input served: its lines are run from a fresh register, and the answers are written.
 // In order: reading a whole input; writing the answers; the input served.
-// specs/Serving.antt says which bytes the answers to an input are. Where a reader or a writer is not known to a contract
-// (a file, standard input and output), a contract can say nothing of its bytes.
+// specs/Serving.antt says which bytes the answers to an input are. A contract knows no bytes of a file or of standard
+// input and output.
 // Not here: the work (crate running), which file (crates runner and cases). Assumes nothing.
 #![tactic(auto)]
 
@@ -14,8 +14,8 @@ use running::Ended;
 use std::io;
 use std::io::{Read, Write};
 
-// Reads until buf is full or the input ends, and returns how many bytes it put at the start of buf. Where a read fails,
-// nothing is said of what was read before it.
+// Reads until buf is full or the input ends, and returns how many bytes it put at the start of buf. An error is that
+// of the first read that failed, and nothing is said of what was read before.
 pub fn read_full<R: Read>(source: &mut R, buf: &mut [u8]) -> io::Result<usize>
     ensures bound { ReadsAtMost result buf.new }
     ensures bytes { IfOk result (λ n. Consumes (R.remaining source.old) (R.remaining source.new)
