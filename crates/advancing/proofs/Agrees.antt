@@ -229,9 +229,9 @@ module _ (z : Size) (ns es : List ℕ) (who : ℕ) (w : Words) where
       unfolding link_ahead
       link_told =
           held _ _ (λ known. cond_cases Told (removing w.op) _ _
-          (λ h. held _ _ (λ Node-in. link_agrees _ (λ c.
+          (λ h. held _ _ (λ node_in. link_agrees _ (λ c.
           finishing.link_remove _ _ _ _ _ _ _ _ _ _ u.removes _ h
-          (finishing.remove_links _ _ _ _ _ _ _ _ _ _ _ _ _ (ltb-true _ _ known) (ltb-true _ _ Node-in) refl refl refl
+          (finishing.remove_links _ _ _ _ _ _ _ _ _ _ _ _ _ (ltb-true _ _ known) (ltb-true _ _ node_in) refl refl refl
           refl))))
           (λ h. link_agrees _ (λ c.
           finishing.link_insert _ _ _ _ _ _ _ _ _ _ u.removes _ h

@@ -149,7 +149,7 @@ module _ (z : Size) (ns : List ℕ) (removes : Bool) (pred node : ℕ) where
       pub links_remove : (n : ℕ) (ns₁ ns₂ : List ℕ) → node < z.nodes → n ≡ next_at ns node → ns₁ ≡ put_node ns node 4 1
           → ns₂ ≡ put_node ns₁ pred 2 n → advanced ns₂ 8 ≡ link_ahead z ns removes pred node
       unfolding link_ahead
-      links_remove n ns₁ ns₂ Node-in next p q = rw (lt-ltb _ _ in_table, h, lt-ltb _ _ Node-in, q, p, next)
+      links_remove n ns₁ ns₂ node_in next p q = rw (lt-ltb _ _ in_table, h, lt-ltb _ _ node_in, q, p, next)
 
 pub ruleset linking = (links_past, links_insert, links_node_past, links_remove)
 

@@ -62,7 +62,7 @@ module _ (z : Size) (ns : List ℕ) (c : Counters) (op : Op) (pred node lower up
       → r ≡ works c op (Phase.Finish pred node lower upper number)
       → moved ns₂ r ≡ remove_link z ns c op pred node lower upper number
   unfolding remove_link
-  remove_links r n ns₁ ns₂ pred_in Node-in next p q e = rw (lt-ltb _ _ pred_in, lt-ltb _ _ Node-in, q, p, e, next)
+  remove_links r n ns₁ ns₂ pred_in node_in next p q e = rw (lt-ltb _ _ pred_in, lt-ltb _ _ node_in, q, p, e, next)
 
   module _ (b : Bool) (test : b ≡ removes_of op) (d : Moved) where
     pub link_remove : b ≡ true → d ≡ remove_link z ns c op pred node lower upper number

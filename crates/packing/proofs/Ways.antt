@@ -111,9 +111,9 @@ module _ (a : Answer) where
       → r ≡ refused_by n → r ≡ reply_of a
   says_refused why n r e h i = rw (e, i, h)
 
-pub ruleset Says-first = (says_started, says_working, says_waiting, says_key, says_inserted)
+pub ruleset says_first = (says_started, says_working, says_waiting, says_key, says_inserted)
 
-pub ruleset Says-then = (says_removed, says_present, says_absent, says_end, says_refused)
+pub ruleset says_then = (says_removed, says_present, says_absent, says_end, says_refused)
 
 pub refuses_by : (r : Reply) → r.name ≡ 0 → r.first ≡ number_of r
 unfolding number_of

@@ -149,4 +149,4 @@ module _ (z : Size) (ns : List ℕ) (c : Counters) (op : Op) (at snapshot handed
   unfolding hand_step
   hands k v in_table few hk hv e = rw (lt-ltb _ _ in_table, lt-ltb _ _ few, e, hk, hv)
 
-pub ruleset Handed-out = (hand_past, hand_many, hands)
+pub ruleset handed_out = (hand_past, hand_many, hands)

@@ -52,9 +52,9 @@ module _ (a : Answer) where
   pub says_refused : (why : Refusal) → a ≡ Answer.Refused why → Said.Other ≡ said_of a
   says_refused why e = rw e
 
-pub ruleset Says-on = (says_working, says_key)
+pub ruleset says_on = (says_working, says_key)
 
-pub ruleset Says-other = (
+pub ruleset says_other = (
   says_started,
   says_waiting,
   says_inserted,

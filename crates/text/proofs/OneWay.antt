@@ -55,26 +55,26 @@ snoc v d l p h b =
     let r : (v * 10 + d) % 10 ≡ d = omega (arith, div-add-mod' (v * 10 + d) 10) in
     rw (more_digits (v * 10 + d) (omega arith) (omega arith), q, r, append_assoc)
 
-abbrev Is-digits : List ℕ → ℕ → Type 0
-Is-digits l n = (l ≡ digits n) × (n ≤ largest)
+abbrev IsDigits : List ℕ → ℕ → Type 0
+IsDigits l n = (l ≡ digits n) × (n ≤ largest)
 
 only_more : (l : List ℕ) (v n : ℕ) → 0 < v → v ≤ largest → grows (Partial.Is v) l ≡ Partial.Is n →
-    Is-digits (digits v ++ l) n
+    IsDigits (digits v ++ l) n
 unfolding grows grow with_digit
 only_more [] v n p b h = let z : v ≡ n = cc in (rw (append-nil, z), omega arith)
 only_more (x ∷ l) v n p b h = by (class_of x) refl (λ w q c k. only_more l w n q c k) h
   where
     within : (d : ℕ) (t : Bool) → leb (v * 10 + d) largest ≡ t → d < 10 → x ≡ 48 + d →
-        ((w : ℕ) → 0 < w → w ≤ largest → grows (Partial.Is w) l ≡ Partial.Is n → Is-digits (digits w ++ l) n) →
-        grows (cond t (Partial.Is (v * 10 + d)) Partial.Not) l ≡ Partial.Is n → Is-digits (digits v ++ (x ∷ l)) n
+        ((w : ℕ) → 0 < w → w ≤ largest → grows (Partial.Is w) l ≡ Partial.Is n → IsDigits (digits w ++ l) n) →
+        grows (cond t (Partial.Is (v * 10 + d)) Partial.Not) l ≡ Partial.Is n → IsDigits (digits v ++ (x ∷ l)) n
     within d true e small z ih k =
         let top : v * 10 + d ≤ largest = leb-true (v * 10 + d) largest e in
         rw (z, ← snoc v d l p small top) (ih (v * 10 + d) (omega arith) top k)
     within d false e small z ih k = not_is l n k
 
     by : (c : Byte) → class_of x ≡ c →
-        ((w : ℕ) → 0 < w → w ≤ largest → grows (Partial.Is w) l ≡ Partial.Is n → Is-digits (digits w ++ l) n) →
-        grows (with_byte (Partial.Is v) c) l ≡ Partial.Is n → Is-digits (digits v ++ (x ∷ l)) n
+        ((w : ℕ) → 0 < w → w ≤ largest → grows (Partial.Is w) l ≡ Partial.Is n → IsDigits (digits w ++ l) n) →
+        grows (with_byte (Partial.Is v) c) l ≡ Partial.Is n → IsDigits (digits v ++ (x ∷ l)) n
     by (Byte.Digit d) e ih k =
         let is = digit_of x d e in
         within d (leb (v * 10 + d) largest) refl is.0 is.1 ih
@@ -88,30 +88,30 @@ whole_is (Partial.Is v) n h = let z : v ≡ n = cc in rw z
 whole_is Partial.Not n h = impossible (cc)
 
 -- after a first 0 nothing follows
-zero_alone : (l : List ℕ) (n : ℕ) → grows (Partial.Is 0) l ≡ Partial.Is n → Is-digits (48 ∷ l) n
+zero_alone : (l : List ℕ) (n : ℕ) → grows (Partial.Is 0) l ≡ Partial.Is n → IsDigits (48 ∷ l) n
 unfolding grows grow with_digit
 zero_alone [] n h = let z : 0 ≡ n = cc in (rw (← z) (sym (one_digit 0 (omega arith))), omega arith)
 zero_alone (x ∷ l) n h = by (class_of x) h
   where
-    by : (c : Byte) → grows (with_byte (Partial.Is 0) c) l ≡ Partial.Is n → Is-digits (48 ∷ (x ∷ l)) n
+    by : (c : Byte) → grows (with_byte (Partial.Is 0) c) l ≡ Partial.Is n → IsDigits (48 ∷ (x ∷ l)) n
     by (Byte.Digit d) k = not_is l n k
     by Byte.LineEnd k = not_is l n k
     by Byte.Other k = not_is l n k
 
-only_grown : (l : List ℕ) (n : ℕ) → grows Partial.Empty l ≡ Partial.Is n → Is-digits l n
+only_grown : (l : List ℕ) (n : ℕ) → grows Partial.Empty l ≡ Partial.Is n → IsDigits l n
 unfolding grows grow with_digit
 only_grown [] n h = impossible (cc)
 only_grown (x ∷ l) n h = by (class_of x) refl h
   where
     first : (d : ℕ) → d < 10 → x ≡ 48 + d → (d ≡ 0) ⊎ (0 < d) → grows (Partial.Is d) l ≡ Partial.Is n →
-        Is-digits (x ∷ l) n
+        IsDigits (x ∷ l) n
     first d small z (inl e) k =
         let z0 : x ≡ 48 = omega arith in rw z0 (zero_alone l n (rw e at k))
     first d small z (inr e) k =
         let r : d % 10 ≡ d = omega (arith, div-add-mod' d 10) in
         rw (z) (rw (one_digit d small, r) at (only_more l d n e (omega arith) k))
 
-    by : (c : Byte) → class_of x ≡ c → grows (with_byte Partial.Empty c) l ≡ Partial.Is n → Is-digits (x ∷ l) n
+    by : (c : Byte) → class_of x ≡ c → grows (with_byte Partial.Empty c) l ≡ Partial.Is n → IsDigits (x ∷ l) n
     by (Byte.Digit d) e k = let is = digit_of x d e in first d is.0 is.1 (eq-zero-or-pos d) k
     by Byte.LineEnd e k = not_is l n k
     by Byte.Other e k = not_is l n k

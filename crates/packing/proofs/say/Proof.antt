@@ -1,5 +1,5 @@
 -- `packing::say` meets its contract: each way out is a law of proofs/Ways.antt. Assumes nothing.
-use Rattle.packing.proofs.Ways.{Says-first, Says-then}
+use Rattle.packing.proofs.Ways.{says_first, says_then}
 use borrow.Author.Rules.{rules}
 use Rattle.packing.proofs.say.Statement.{statement}
 use Rattle.packing.proofs.say.Tie as tie
@@ -20,13 +20,13 @@ say_spec =
     (λ c. search rules)
     (λ c κs. search rules)
     (λ c κs. search rules)
-    (λ c. search (Says-first, Says-then))
-    (λ c. search (Says-first, Says-then))
-    (λ c. search (Says-first, Says-then))
-    (λ c. search (Says-first, Says-then))
-    (λ c. search (Says-first, Says-then))
-    (λ c. search (Says-first, Says-then))
-    (λ c. search (Says-first, Says-then))
-    (λ c. search (Says-first, Says-then))
-    (λ c. search (Says-first, Says-then))
-    (λ c. search (Says-first, Says-then)))
+    (λ c. search (says_first, says_then))
+    (λ c. search (says_first, says_then))
+    (λ c. search (says_first, says_then))
+    (λ c. search (says_first, says_then))
+    (λ c. search (says_first, says_then))
+    (λ c. search (says_first, says_then))
+    (λ c. search (says_first, says_then))
+    (λ c. search (says_first, says_then))
+    (λ c. search (says_first, says_then))
+    (λ c. search (says_first, says_then)))

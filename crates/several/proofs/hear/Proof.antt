@@ -1,5 +1,5 @@
 -- `several::hear` meets its contract: each way out is a law of proofs/Ways.antt. Assumes nothing.
-use Rattle.several.proofs.Ways.{Says-on, Says-other}
+use Rattle.several.proofs.Ways.{says_on, says_other}
 use borrow.Author.Rules.{rules}
 use Rattle.several.proofs.hear.Statement.{statement}
 use Rattle.several.proofs.hear.Tie as tie
@@ -21,7 +21,7 @@ hear_spec =
     (λ c. search rules)
     (λ c. search rules)
     (λ c. search rules)
-    (λ c. search (Says-on, Says-other))
+    (λ c. search (says_on, says_other))
     (λ c. search rules)
     (λ c. search rules)
     (λ c. search rules)
