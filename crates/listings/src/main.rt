@@ -8,6 +8,7 @@ use listing::Written;
 use loading::Loaded;
 use scanning::Reading;
 use std::env::{Env, FillError};
+use std::fmt::InlineText;
 use std::fs::File;
 use std::io;
 
@@ -128,8 +129,14 @@ fn file(rt: &HostRuntime, source: &mut File) -> io::Result<()> {
 
 // A line on standard error: the path, and why it did not open.
 fn fail(rt: &HostRuntime, path: &[u8], error: io::Error) -> io::Result<()> {
+    let text = InlineText::<256>::of(error);
+    let said = text.as_str();
+    let why = match said.split_once(" (os error ") {
+        Some((why, _)) => why,
+        None => said,
+    };
     rt.stderr().write_all(path)?;
-    eprintln!(rt; ": {error}")
+    eprintln!(rt; ": {why}")
 }
 
 fn open(rt: &HostRuntime, path: &[u8]) -> io::Result<File> {
