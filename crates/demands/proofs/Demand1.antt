@@ -175,42 +175,42 @@ module _ (z : Size) (ns es : List ℕ) (who : ℕ) (s : Session) (op : Op) where
     bad_table = holds (itself Refusal.BadTable) bad;
     bad_session = fails (other Refusal.BadTable 1 (omega arith)) (λ h. h.0 bad);
     busy = fails (other Refusal.BadTable 2 (omega arith)) (λ h. h.0 bad);
-    refuses_bad_key = fails (other Refusal.BadTable 3 (omega arith)) (λ h. h.0.0 bad);
+    bad_key = fails (other Refusal.BadTable 3 (omega arith)) (λ h. h.0.0 bad);
     bad_range = fails (other Refusal.BadTable 4 (omega arith)) (λ h. h.0.0 bad);
   }
   start_rows r (session fit past) = record {
     bad_table = fails (other Refusal.BadSession 7 (omega arith)) (fit);
     bad_session = holds (itself Refusal.BadSession) (fit, past);
     busy = fails (other Refusal.BadSession 2 (omega arith)) (λ h. h.1 past);
-    refuses_bad_key = fails (other Refusal.BadSession 3 (omega arith)) (λ h. h.0.1 past);
+    bad_key = fails (other Refusal.BadSession 3 (omega arith)) (λ h. h.0.1 past);
     bad_range = fails (other Refusal.BadSession 4 (omega arith)) (λ h. h.0.1 past);
   }
   start_rows r (runs fit known b) = record {
     bad_table = fails (other Refusal.Busy 7 (omega arith)) (fit);
     bad_session = fails (other Refusal.Busy 1 (omega arith)) (λ h. known h.1);
     busy = holds (itself Refusal.Busy) (fit, known, b);
-    refuses_bad_key = fails (other Refusal.Busy 3 (omega arith)) (λ h. h.0.2 b);
+    bad_key = fails (other Refusal.Busy 3 (omega arith)) (λ h. h.0.2 b);
     bad_range = fails (other Refusal.Busy 4 (omega arith)) (λ h. h.0.2 b);
   }
   start_rows r (key_out asks bad) = record {
     bad_table = fails (other Refusal.BadKey 7 (omega arith)) asks.0;
     bad_session = fails (other Refusal.BadKey 1 (omega arith)) (λ h. asks.1 h.1);
     busy = fails (other Refusal.BadKey 2 (omega arith)) (λ h. asks.2 h.2);
-    refuses_bad_key = holds (itself Refusal.BadKey) (asks, bad);
+    bad_key = holds (itself Refusal.BadKey) (asks, bad);
     bad_range = fails (other Refusal.BadKey 4 (omega arith)) (λ h. h.1 bad);
   }
   start_rows r (range_out asks good over) = record {
     bad_table = fails (other Refusal.BadRange 7 (omega arith)) asks.0;
     bad_session = fails (other Refusal.BadRange 1 (omega arith)) (λ h. asks.1 h.1);
     busy = fails (other Refusal.BadRange 2 (omega arith)) (λ h. asks.2 h.2);
-    refuses_bad_key = fails (other Refusal.BadRange 3 (omega arith)) (λ h. good h.1);
+    bad_key = fails (other Refusal.BadRange 3 (omega arith)) (λ h. good h.1);
     bad_range = holds (itself Refusal.BadRange) (asks, good, over);
   }
   start_rows r (begins asks good upright) = record {
     bad_table = fails (none_started 7) asks.0;
     bad_session = fails (none_started 1) (λ h. asks.1 h.1);
     busy = fails (none_started 2) (λ h. asks.2 h.2);
-    refuses_bad_key = fails (none_started 3) (λ h. good h.1);
+    bad_key = fails (none_started 3) (λ h. good h.1);
     bad_range = fails (none_started 4) (λ h. upright h.2);
   }
 

@@ -229,7 +229,7 @@ pub record StartRows (z : Size) (ns es : List ℕ) (who : ℕ) (s : Session) (op
   pub bad_table : Refuses 7 a ↔ BadTable z ns es
   pub bad_session : Refuses 1 a ↔ ((¬ BadTable z ns es) × BadSession who)
   pub busy : Refuses 2 a ↔ ((¬ BadTable z ns es) × (¬ BadSession who) × Busy s)
-  pub refuses_bad_key : Refuses 3 a ↔ (Asks z ns es who s × BadKey op)
+  pub bad_key : Refuses 3 a ↔ (Asks z ns es who s × BadKey op)
   pub bad_range : Refuses 4 a ↔ (Asks z ns es who s × (¬ BadKey op) × BadRange op)
 
 -- what it leaves: the tables and the counters are not its to change

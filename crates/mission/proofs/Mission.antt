@@ -57,7 +57,7 @@ drop_behind (suc j) (x ∷ l) u b e = drop_behind j l u b e
 
 first_before : {A : Type 0} (n : ℕ) (l : List A) (u : A) (b : List A) → first n l ≡ u ∷ b → 0 < n → n ≤ length l
     → first (n - 1) l ≡ b
-first_before n l u b e some_update in_List =
+first_before n l u b e some_update in_list =
     let z : length l - (n - 1) ≡ suc (length l - n) = omega arith in
     rw z (drop_behind (length l - n) l u b e)
 
@@ -89,7 +89,7 @@ module _ (key val : ℕ → ℕ) (σ : State) (h : Past) (m : Drawing) (S : Show
       let snap = (shown_inv S).hist.snap t (omega arith) (omega (arith, S.stamp)) in
       sym (set_within key val empty 1 4294967294 log)
       ∙ ap (map (entry key val)) (chain_whole key (next m.rows t) 1 4294967294 0 (members key empty log)
-      (omega (arith, S.head_key)) (omega (arith, S.tail_key_lem)) snap.walk)
+      (omega (arith, S.head_key)) (omega (arith, S.tail_key)) snap.walk)
       ∙ set_is_members key val empty log
 
   pub set_log : (t : ℕ) → set_at h t ≡ set_of key val empty (up_to empty t m.log)

@@ -230,7 +230,7 @@ module _ (key val : ℕ → ℕ) where
         drawing = beginning empty;
         shown = S;
         nodes = [];
-        listed = listed_beginning key val empty (omega (arith, S.head_key, S.tail_key_lem), tt);
+        listed = listed_beginning key val empty (omega (arith, S.head_key, S.tail_key), tt);
         no_head = Memᴰ.not-nil;
       }
   reached_live (on {σ} {h} r c words) agrees =

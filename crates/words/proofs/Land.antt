@@ -313,7 +313,7 @@ module _ (key val : ℕ → ℕ) (σ : State) (h : Past) (m : Drawing) (S : Show
   shown_after agrees = record {
     reached = gone_on S.reached (stepping t L.step);
     head_key = S.head_key;
-    tail_key_lem = S.tail_key_lem;
+    tail_key = S.tail_key;
     agrees = agrees;
     whole_nodes = L.whole_nodes;
     whole_entries = L.whole_entries;

@@ -144,7 +144,7 @@ pub record Tells (key val : ℕ → ℕ) (h : Past) (m : Drawing) : Type 0 where
 pub record Shown (z : Size) (key val : ℕ → ℕ) (σ : State) (h : Past) (m : Drawing) : Type 0 where
   pub reached : ReachedBy (list_shape key val empty) m
   pub head_key : key head ≡ 0
-  pub tail_key_lem : key tail ≡ tail_key
+  pub tail_key : key tail ≡ tail_key
   pub agrees : Agrees key val σ.register.counters.nodes σ.nodes
   pub whole_nodes : length σ.nodes ≡ z.nodes * 6
   pub whole_entries : length σ.entries ≡ z.entries * 4
@@ -165,7 +165,7 @@ pub record Shown (z : Size) (key val : ℕ → ℕ) (σ : State) (h : Past) (m :
 pub shown_inv : {z : Size} {key val : ℕ → ℕ} {σ : State} {h : Past} {m : Drawing} → Shown z key val σ h m
     → Inv key val empty m
 shown_inv {key = key} {val} S =
-    shape_history (list_shape key val empty) (omega (arith, S.head_key, S.tail_key_lem), tt) S.reached
+    shape_history (list_shape key val empty) (omega (arith, S.head_key, S.tail_key), tt) S.reached
 
 -- ---- a step of session t in words and in the drawing: it waits in both, or it steps in both with the same answer
 abbrev pub out_word : Out → Answer

@@ -200,7 +200,7 @@ module _ (key val : ℕ → ℕ) (σ : State) (h : Past) (m : Drawing) (S : Show
       record {
         reached = gone_on S.reached (starting who (starts d quiet fine));
         head_key = S.head_key;
-        tail_key_lem = S.tail_key_lem;
+        tail_key = S.tail_key;
         agrees = S.agrees;
         whole_nodes = S.whole_nodes;
         whole_entries = S.whole_entries;
@@ -239,7 +239,7 @@ module _ (key val : ℕ → ℕ) (σ : State) (h : Past) (m : Drawing) (S : Show
       → Shows op (began σ.nodes (record_of σ who) op)
   began_shows op words low calm = began_cases (Shows op) σ.nodes (record_of σ who) op
       (refused_shows op) (λ bad order.
-      let d = drawn key val S.head_key S.tail_key_lem op bad order words.0 words.1 in
+      let d = drawn key val S.head_key S.tail_key op bad order words.0 words.1 in
       subst (λ o. Shows op (record {
         session = record { op = o; phase = Phase.Phase.Walk 0 (next_at σ.nodes 0) };
         answer = Answer.Started;
