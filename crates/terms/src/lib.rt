@@ -1,10 +1,19 @@
 // What callers and every shape of the register speak of: sizes, counters, operations, answers and refusals.
-// In order: sizes and counters; operations, and the numbers in them; answers and refusals.
+// In order: sizes, counters, operations, refusals and answers; a refusal's number; the numbers in an operation.
 // Not here: the phases of an operation, which are a shape's own. Assumes nothing.
 #![tactic(auto)]
 
 ghost use Rattle.std.specs.Prelude.{◌≡◌};
-ghost use Rattle.terms.specs.Terms.{small, sought_of, high_of, value_of, removes_of, names_of, out_of_bounds};
+ghost use Rattle.terms.specs.Terms.{
+  small,
+  refusal_number,
+  sought_of,
+  high_of,
+  value_of,
+  removes_of,
+  names_of,
+  out_of_bounds,
+};
 
 // How much the tables hold: nodes (head and tail included), entries, keys, and the updates that those allow.
 #[derive(Clone, Copy)]
@@ -60,6 +69,24 @@ pub enum Answer {
     Refused(Refusal),
 }
 
+// Document 01's number of a refusal.
+impl From<Refusal> for u32 {
+    ghost from_gives = { λ why n. n ≡ refusal_number why };
+
+    fn from(why: Refusal) -> u32 {
+        match why {
+            Refusal::BadSession => 1,
+            Refusal::Busy => 2,
+            Refusal::BadKey => 3,
+            Refusal::BadRange => 4,
+            Refusal::Idle => 5,
+            Refusal::Full => 6,
+            Refusal::BadTable => 7,
+            Refusal::Damaged => 8,
+        }
+    }
+}
+
 pub fn small_size() -> Size
     ensures { result ≡ small }
 {
@@ -77,10 +104,7 @@ pub fn sought(op: Op) -> u32
 {
     match op {
         Op::None => 0,
-        Op::Insert(key, _) => key,
-        Op::Remove(key) => key,
-        Op::Has(key) => key,
-        Op::Range(low, _) => low,
+        Op::Insert(key, _) | Op::Remove(key) | Op::Has(key) | Op::Range(key, _) => key,
     }
 }
 
@@ -90,10 +114,7 @@ pub fn high(op: Op) -> u32
 {
     match op {
         Op::None => 0,
-        Op::Insert(key, _) => key,
-        Op::Remove(key) => key,
-        Op::Has(key) => key,
-        Op::Range(_, high) => high,
+        Op::Insert(key, _) | Op::Remove(key) | Op::Has(key) | Op::Range(_, key) => key,
     }
 }
 
@@ -101,45 +122,28 @@ pub fn value(op: Op) -> u32
     ensures { result ≡ value_of op }
 {
     match op {
-        Op::None => 0,
         Op::Insert(_, value) => value,
-        Op::Remove(_) => 0,
-        Op::Has(_) => 0,
-        Op::Range(_, _) => 0,
+        _ => 0,
     }
 }
 
 pub fn removes(op: Op) -> bool
     ensures { result ≡ removes_of op }
 {
-    match op {
-        Op::None => false,
-        Op::Insert(_, _) => false,
-        Op::Remove(_) => true,
-        Op::Has(_) => false,
-        Op::Range(_, _) => false,
-    }
+    matches!(op, Op::Remove(_))
 }
 
 // Whether an operation is named at all.
 pub fn names(op: Op) -> bool
     ensures { result ≡ names_of op }
 {
-    match op {
-        Op::None => false,
-        Op::Insert(_, _) => true,
-        Op::Remove(_) => true,
-        Op::Has(_) => true,
-        Op::Range(_, _) => true,
-    }
+    !matches!(op, Op::None)
 }
 
 // A key that is the head's or the tail's.
+#[tactic(auto, unfolding(crate::specs::Terms::out_of_bounds))]
 pub fn out_of_bounds(key: u32) -> bool
     ensures { result ≡ out_of_bounds key }
 {
-    if key == 0 {
-        return true;
-    }
-    key == 4294967295
+    key == 0 || key == 4294967295
 }

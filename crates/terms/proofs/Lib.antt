@@ -1,2 +1,0 @@
--- Each way through the functions on keys.
-pub mod Ways
