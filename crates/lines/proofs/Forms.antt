@@ -11,7 +11,7 @@ use lib.ListN.{length, take, drop, length-append}
 use lib.Dec.{ltb, eqb}
 use borrow.Author.Tests.{lt-ltb, le-ltb, ne_eqb, ltb-true, eqb-true}
 use Rattle.text.specs.Text.{largest, number_in, field_in, starts_with, digits, digits_in}
-use Rattle.text.specs.declared.Number.{Number}
+use Rattle.std.specs.Prelude.{Option, Some, None}
 use Rattle.text.proofs.Basics.{impossible}
 use Rattle.text.proofs.Write.{read_back}
 use Rattle.text.proofs.Back.{field_back}
@@ -48,16 +48,16 @@ two_only s a b =
     by (ltb (comma_in s) (length s)) refl (number_in (take (comma_in s) s)) (number_in (drop (comma_in s + 1) s))
     refl refl
   where
-    by : (t : Bool) → ltb (comma_in s) (length s) ≡ t → (n m : Number) → number_in (take (comma_in s) s) ≡ n →
+    by : (t : Bool) → ltb (comma_in s) (length s) ≡ t → (n m : Option ℕ) → number_in (take (comma_in s) s) ≡ n →
         number_in (drop (comma_in s + 1) s) ≡ m → cond t (both n m) Two.Not ≡ Two.Are a b →
         s ≡ digits a ++ (44 ∷ digits b)
-    by true h (Number.Is x) (Number.Is y) ex ey e =
+    by true h (Some x) (Some y) ex ey e =
         let ea : x ≡ a = cc in
         let eb : y ≡ b = cc in
         sym (comma_cut s (ltb-true _ _ h)) ∙
         rw ((number_only _ x ex).0, (number_only _ y ey).0, ea, eb)
-    by true h (Number.Is x) Number.Not ex ey e = impossible (cc)
-    by true h Number.Not m ex ey e = impossible (cc)
+    by true h (Some x) None ex ey e = impossible (cc)
+    by true h None m ex ey e = impossible (cc)
     by false h n m ex ey e = impossible (cc)
 
 keyed_only : (head : List ℕ) (k : ℕ) (call : Call) → keyed head k ≡ Line.Is call →
@@ -65,53 +65,53 @@ keyed_only : (head : List ℕ) (k : ℕ) (call : Call) → keyed head k ≡ Line
 unfolding keyed more one_of
 keyed_only head k call = by (field_in remove_name head) (field_in has_name head) refl refl
   where
-    by : (n m : Number) → field_in remove_name head ≡ n → field_in has_name head ≡ m →
+    by : (n m : Option ℕ) → field_in remove_name head ≡ n → field_in has_name head ≡ m →
         or_one n (λ s. Line.Is (Call.Start s (Op.Remove k))) (or_one m (λ s. Line.Is (Call.Start s (Op.Has k)))
         Line.Bad) ≡
         Line.Is call → head ++ (44 ∷ digits k) ≡ call_line call
-    by (Number.Is s) m er eh e =
+    by (Some s) m er eh e =
         let is : Call.Start s (Op.Remove k) ≡ call = cc in
         rw (← is, (field_only remove_name head s er).0)
-    by Number.Not (Number.Is s) er eh e =
+    by None (Some s) er eh e =
         let is : Call.Start s (Op.Has k) ≡ call = cc in
         rw (← is, (field_only has_name head s eh).0)
-    by Number.Not Number.Not er eh e = impossible (cc)
+    by None None er eh e = impossible (cc)
 
 paired_only : (head : List ℕ) (a b : ℕ) (call : Call) → paired head a b ≡ Line.Is call →
     head ++ (44 ∷ (digits a ++ (44 ∷ digits b))) ≡ call_line call
 unfolding paired more one_of
 paired_only head a b call = by (field_in insert_name head) (field_in range_name head) refl refl
   where
-    by : (n m : Number) → field_in insert_name head ≡ n → field_in range_name head ≡ m →
+    by : (n m : Option ℕ) → field_in insert_name head ≡ n → field_in range_name head ≡ m →
         or_one n (λ s. Line.Is (Call.Start s (Op.Insert a b)))
         (or_one m (λ s. Line.Is (Call.Start s (Op.Range a b))) Line.Bad) ≡ Line.Is call →
         head ++ (44 ∷ (digits a ++ (44 ∷ digits b))) ≡ call_line call
-    by (Number.Is s) m ei er e =
+    by (Some s) m ei er e =
         let is : Call.Start s (Op.Insert a b) ≡ call = cc in
         rw (← is, (field_only insert_name head s ei).0)
-    by Number.Not (Number.Is s) ei er e =
+    by None (Some s) ei er e =
         let is : Call.Start s (Op.Range a b) ≡ call = cc in
         rw (← is, (field_only range_name head s er).0)
-    by Number.Not Number.Not ei er e = impossible (cc)
+    by None None ei er e = impossible (cc)
 
 start_only : (head tail : List ℕ) (call : Call) → start_in head tail ≡ Line.Is call →
     head ++ (44 ∷ tail) ≡ call_line call
 unfolding start_in
 start_only head tail call = by (number_in tail) (two_in tail) refl refl
   where
-    by : (n : Number) (t : Two) → number_in tail ≡ n → two_in tail ≡ t →
+    by : (n : Option ℕ) (t : Two) → number_in tail ≡ n → two_in tail ≡ t →
         or_one n (keyed head) (or_two t (paired head) Line.Bad) ≡ Line.Is call → head ++ (44 ∷ tail) ≡ call_line call
-    by (Number.Is k) t en et e = rw (number_only tail k en).0 (keyed_only head k call e)
-    by Number.Not (Two.Are a b) en et e = rw (two_only tail a b et) (paired_only head a b call e)
-    by Number.Not Two.Not en et e = impossible (cc)
+    by (Some k) t en et e = rw (number_only tail k en).0 (keyed_only head k call e)
+    by None (Two.Are a b) en et e = rw (two_only tail a b et) (paired_only head a b call e)
+    by None Two.Not en et e = impossible (cc)
 
-step_only : (l : List ℕ) (call : Call) (n : Number) → field_in step_name l ≡ n →
+step_only : (l : List ℕ) (call : Call) (n : Option ℕ) → field_in step_name l ≡ n →
     or_one n (λ s. Line.Is (Call.Step s)) Line.Bad ≡ Line.Is call → l ≡ call_line call
 unfolding more one_of
-step_only l call (Number.Is s) f e =
+step_only l call (Some s) f e =
     let is : Call.Step s ≡ call = cc in
     rw (← is, (field_only step_name l s f).0)
-step_only l call Number.Not f e = impossible (cc)
+step_only l call None f e = impossible (cc)
 
 pub call_only : (l : List ℕ) (call : Call) → line_in l ≡ Line.Is call → l ≡ call_line call
 unfolding line_in
@@ -204,11 +204,11 @@ two_back a b la lb =
     )
 
 -- two numbers are not one
-not_one : (a : ℕ) (r : List ℕ) → number_in (digits a ++ (44 ∷ r)) ≡ Number.Not
+not_one : (a : ℕ) (r : List ℕ) → number_in (digits a ++ (44 ∷ r)) ≡ None
 not_one a r = by (number_in (digits a ++ (44 ∷ r))) refl
   where
-    by : (n : Number) → number_in (digits a ++ (44 ∷ r)) ≡ n → n ≡ Number.Not
-    by (Number.Is n) e =
+    by : (n : Option ℕ) → number_in (digits a ++ (44 ∷ r)) ≡ n → n ≡ None
+    by (Some n) e =
         let is = (number_only _ n e).0 in
         absurd (omega (
           arith,
@@ -218,7 +218,7 @@ not_one a r = by (number_in (digits a ++ (44 ∷ r))) refl
           comma_at (digits a) r (digits_no_comma a),
           comma_in_lem (digits a) r (digits_no_comma a),
         ))
-    by Number.Not e = refl
+    by None e = refl
 
 module _ (name : List ℕ) (s : ℕ) (named : comma_in name ≡ length name) where
   one_back : (k : ℕ) → k ≤ largest → line_in ((name ++ digits s) ++ (44 ∷ digits k)) ≡ keyed (name ++ digits s) k
@@ -254,11 +254,11 @@ unfolding comma_in
 no_step = refl
 
 -- each name begins in its own way
-other_has : (s : ℕ) → field_in remove_name (has_name ++ digits s) ≡ Number.Not
+other_has : (s : ℕ) → field_in remove_name (has_name ++ digits s) ≡ None
 unfolding field_in starts_with
 other_has s = refl
 
-other_range : (s : ℕ) → field_in insert_name (range_name ++ digits s) ≡ Number.Not
+other_range : (s : ℕ) → field_in insert_name (range_name ++ digits s) ≡ None
 unfolding field_in starts_with
 other_range s = refl
 

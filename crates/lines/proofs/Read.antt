@@ -11,7 +11,7 @@ use lib.ListN.{length, get_or, take, drop, drop_of_length-le, length-drop}
 use lib.Seq.{drop-cons, take_all}
 use borrow.Author.Tests.{lt-ltb, le-ltb, eq-eqb, ne_eqb}
 use Rattle.text.specs.Text.{number_in, field_in}
-use Rattle.text.specs.declared.Number.{Number}
+use Rattle.std.specs.Prelude.{Option, Some, None}
 use Rattle.terms.specs.declared.Op.{Op}
 use Rattle.sixteen.specs.declared.Call.{Call}
 use Rattle.lines.specs.Lines.{insert_name, remove_name, has_name, range_name, step_name}
@@ -52,21 +52,21 @@ module _ (s : List ℕ) (c : ℕ) (at_comma : c ≡ comma_in s) where
   unfolding two_in
   two_none h = rw (← at_comma, le-ltb c (length s) h)
 
-  module _ (within : c < length s) (n : Number) (first : n ≡ number_in (take c s)) where
-    pub two_not_first : n ≡ Number.Not → Two.Not ≡ two_in s
+  module _ (within : c < length s) (n : Option ℕ) (first : n ≡ number_in (take c s)) where
+    pub two_not_first : n ≡ None → Two.Not ≡ two_in s
     unfolding two_in
     two_not_first e = rw (← at_comma, lt-ltb c (length s) within, ← first, e)
 
-    module _ (a : ℕ) (is : n ≡ Number.Is a) (m : Number)
+    module _ (a : ℕ) (is : n ≡ Some a) (m : Option ℕ)
         (second : m ≡ number_in (take (length s - (c + 1)) (drop (c + 1) s))) where
       after : number_in (drop (c + 1) s) ≡ m
       after = ap number_in (sym (tail s (c + 1))) ∙ sym second
 
-      pub two_are : (b : ℕ) → m ≡ Number.Is b → Two.Are a b ≡ two_in s
+      pub two_are : (b : ℕ) → m ≡ Some b → Two.Are a b ≡ two_in s
       unfolding two_in
       two_are b e = rw (← at_comma, lt-ltb c (length s) within, ← first, is, after, e)
 
-      pub two_not_second : m ≡ Number.Not → Two.Not ≡ two_in s
+      pub two_not_second : m ≡ None → Two.Not ≡ two_in s
       unfolding two_in
       two_not_second e = rw (← at_comma, lt-ltb c (length s) within, ← first, is, after, e)
 
@@ -74,42 +74,42 @@ pub ruleset twos = (two_none, two_not_first, two_are, two_not_second)
 
 -- ---- a head and its numbers
 
-module _ (head : List ℕ) (k : ℕ) (r : Number) (fr : r ≡ field_in remove_name head) where
-  pub line_remove : (s : ℕ) → r ≡ Number.Is s → Line.Is (Call.Start s (Op.Remove k)) ≡ keyed head k
+module _ (head : List ℕ) (k : ℕ) (r : Option ℕ) (fr : r ≡ field_in remove_name head) where
+  pub line_remove : (s : ℕ) → r ≡ Some s → Line.Is (Call.Start s (Op.Remove k)) ≡ keyed head k
   unfolding keyed
   line_remove s e = rw (← fr, e)
 
-  module _ (nr : r ≡ Number.Not) (h : Number) (fh : h ≡ field_in has_name head) where
-    pub line_has : (s : ℕ) → h ≡ Number.Is s → Line.Is (Call.Start s (Op.Has k)) ≡ keyed head k
+  module _ (nr : r ≡ None) (h : Option ℕ) (fh : h ≡ field_in has_name head) where
+    pub line_has : (s : ℕ) → h ≡ Some s → Line.Is (Call.Start s (Op.Has k)) ≡ keyed head k
     unfolding keyed
     line_has s e = rw (← fr, nr, ← fh, e)
 
-    pub keyed_bad : h ≡ Number.Not → Line.Bad ≡ keyed head k
+    pub keyed_bad : h ≡ None → Line.Bad ≡ keyed head k
     unfolding keyed
     keyed_bad e = rw (← fr, nr, ← fh, e)
 
-module _ (head : List ℕ) (a b : ℕ) (i : Number) (fi : i ≡ field_in insert_name head) where
-  pub line_insert : (s : ℕ) → i ≡ Number.Is s → Line.Is (Call.Start s (Op.Insert a b)) ≡ paired head a b
+module _ (head : List ℕ) (a b : ℕ) (i : Option ℕ) (fi : i ≡ field_in insert_name head) where
+  pub line_insert : (s : ℕ) → i ≡ Some s → Line.Is (Call.Start s (Op.Insert a b)) ≡ paired head a b
   unfolding paired
   line_insert s e = rw (← fi, e)
 
-  module _ (ni : i ≡ Number.Not) (g : Number) (fg : g ≡ field_in range_name head) where
-    pub line_range : (s : ℕ) → g ≡ Number.Is s → Line.Is (Call.Start s (Op.Range a b)) ≡ paired head a b
+  module _ (ni : i ≡ None) (g : Option ℕ) (fg : g ≡ field_in range_name head) where
+    pub line_range : (s : ℕ) → g ≡ Some s → Line.Is (Call.Start s (Op.Range a b)) ≡ paired head a b
     unfolding paired
     line_range s e = rw (← fi, ni, ← fg, e)
 
-    pub paired_bad : g ≡ Number.Not → Line.Bad ≡ paired head a b
+    pub paired_bad : g ≡ None → Line.Bad ≡ paired head a b
     unfolding paired
     paired_bad e = rw (← fi, ni, ← fg, e)
 
 pub ruleset heads = (line_remove, line_has, keyed_bad, line_insert, line_range, paired_bad)
 
-module _ (head tail : List ℕ) (n : Number) (one : n ≡ number_in tail) where
-  pub start_keyed : (k : ℕ) (r : Line) → n ≡ Number.Is k → r ≡ keyed head k → r ≡ start_in head tail
+module _ (head tail : List ℕ) (n : Option ℕ) (one : n ≡ number_in tail) where
+  pub start_keyed : (k : ℕ) (r : Line) → n ≡ Some k → r ≡ keyed head k → r ≡ start_in head tail
   unfolding start_in
   start_keyed k r e h = rw (← one, e, h)
 
-  module _ (not : n ≡ Number.Not) (t : Two) (two : t ≡ two_in tail) where
+  module _ (not : n ≡ None) (t : Two) (two : t ≡ two_in tail) where
     pub start_paired : (a b : ℕ) (r : Line) → t ≡ Two.Are a b → r ≡ paired head a b → r ≡ start_in head tail
     unfolding start_in
     start_paired a b r e h = rw (← one, not, ← two, e, h)
@@ -128,12 +128,12 @@ module _ (l : List ℕ) (c : ℕ) (at_comma : c ≡ comma_in l) where
   unfolding line_in
   line_start r within h = rw (← at_comma, lt-ltb c (length l) within, ← tail l (c + 1), h)
 
-  module _ (none : length l ≤ c) (n : Number) (f : n ≡ field_in step_name l) where
-    pub line_step : (s : ℕ) → n ≡ Number.Is s → Line.Is (Call.Step s) ≡ line_in l
+  module _ (none : length l ≤ c) (n : Option ℕ) (f : n ≡ field_in step_name l) where
+    pub line_step : (s : ℕ) → n ≡ Some s → Line.Is (Call.Step s) ≡ line_in l
     unfolding line_in
     line_step s e = rw (← at_comma, le-ltb c (length l) none, ← f, e)
 
-    pub line_bad : n ≡ Number.Not → Line.Bad ≡ line_in l
+    pub line_bad : n ≡ None → Line.Bad ≡ line_in l
     unfolding line_in
     line_bad e = rw (← at_comma, le-ltb c (length l) none, ← f, e)
 

@@ -11,7 +11,7 @@ use lib.Seq.{length-take-le}
 use lib.Dec.{ltb}
 use borrow.Author.Tests.{ltb-true}
 use Rattle.text.specs.Text.{number_in, grows, starts_with, field_in, digits, digits_in}
-use Rattle.text.specs.declared.Number.{Number}
+use Rattle.std.specs.Prelude.{Option, Some, None}
 use Rattle.text.proofs.Basics.{impossible}
 use Rattle.text.proofs.Lines.{starts_length}
 use Rattle.text.proofs.Write.{short}
@@ -27,16 +27,16 @@ use Rattle.lines.specs.declared.Line.{Line}
 
 -- ---- names and numbers read
 
-number_long : (s : List ℕ) (n : ℕ) → number_in s ≡ Number.Is n → 1 ≤ length s
+number_long : (s : List ℕ) (n : ℕ) → number_in s ≡ Some n → 1 ≤ length s
 unfolding number_in grows
 number_long [] n e = impossible (cc)
 number_long (b ∷ s) n e = omega arith
 
-field_long : (name s : List ℕ) (n : ℕ) → field_in name s ≡ Number.Is n → length name + 1 ≤ length s
+field_long : (name s : List ℕ) (n : ℕ) → field_in name s ≡ Some n → length name + 1 ≤ length s
 unfolding field_in
 field_long name s n = by (starts_with name s) refl
   where
-    by : (t : Bool) → starts_with name s ≡ t → cond t (number_in (drop (length name) s)) Number.Not ≡ Number.Is n →
+    by : (t : Bool) → starts_with name s ≡ t → cond t (number_in (drop (length name) s)) None ≡ Some n →
         length name + 1 ≤ length s
     by true e k =
         omega (arith, starts_length name s true (sym e) refl, number_long _ n k, length-drop (length name) s)
@@ -48,11 +48,11 @@ either_long : (a b head : List ℕ) (f g : ℕ → Line) (call : Call) → 4 ≤
     or_one (field_in a head) f (or_one (field_in b head) g Line.Bad) ≡ Line.Is call → 5 ≤ length head
 either_long a b head f g call la lb = by (field_in a head) (field_in b head) refl refl
   where
-    by : (n m : Number) → field_in a head ≡ n → field_in b head ≡ m →
+    by : (n m : Option ℕ) → field_in a head ≡ n → field_in b head ≡ m →
         or_one n f (or_one m g Line.Bad) ≡ Line.Is call → 5 ≤ length head
-    by (Number.Is s) m ea eb e = omega (arith, field_long a head s ea)
-    by Number.Not (Number.Is s) ea eb e = omega (arith, field_long b head s eb)
-    by Number.Not Number.Not ea eb e = impossible (cc)
+    by (Some s) m ea eb e = omega (arith, field_long a head s ea)
+    by None (Some s) ea eb e = omega (arith, field_long b head s eb)
+    by None None ea eb e = impossible (cc)
 
 keyed_long : (head : List ℕ) (k : ℕ) (call : Call) → keyed head k ≡ Line.Is call → 5 ≤ length head
 unfolding keyed
@@ -66,16 +66,16 @@ start_long : (head tail : List ℕ) (call : Call) → start_in head tail ≡ Lin
 unfolding start_in
 start_long head tail call = by (number_in tail) (two_in tail)
   where
-    by : (n : Number) (t : Two) → or_one n (keyed head) (or_two t (paired head) Line.Bad) ≡ Line.Is call
+    by : (n : Option ℕ) (t : Two) → or_one n (keyed head) (or_two t (paired head) Line.Bad) ≡ Line.Is call
         → 5 ≤ length head
-    by (Number.Is k) t e = keyed_long head k call e
-    by Number.Not (Two.Are a b) e = paired_long head a b call e
-    by Number.Not Two.Not e = impossible (cc)
+    by (Some k) t e = keyed_long head k call e
+    by None (Two.Are a b) e = paired_long head a b call e
+    by None Two.Not e = impossible (cc)
 
-step_long : (l : List ℕ) (call : Call) (n : Number) → field_in step_name l ≡ n →
+step_long : (l : List ℕ) (call : Call) (n : Option ℕ) → field_in step_name l ≡ n →
     or_one n (λ s. Line.Is (Call.Step s)) Line.Bad ≡ Line.Is call → 6 ≤ length l
-step_long l call (Number.Is s) f e = omega (arith, field_long step_name l s f)
-step_long l call Number.Not f e = impossible (cc)
+step_long l call (Some s) f e = omega (arith, field_long step_name l s f)
+step_long l call None f e = impossible (cc)
 
 cut_long : (l : List ℕ) (c : ℕ) → c < length l → 5 ≤ length (take c l) → 6 ≤ length l
 cut_long l c h k = omega (arith, length-take-le c l (omega arith))

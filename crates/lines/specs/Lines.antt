@@ -6,7 +6,7 @@
 -- Assumes nothing.
 use Rattle.std.specs.Prelude.{ℕ, suc, ◌+◌, ◌≤◌, List, [], ◌∷◌, ◌++◌, cond, length, take, drop, ltb, eqb}
 use Rattle.text.specs.Text.{largest, number_in, field_in, digits}
-use Rattle.text.specs.declared.Number.{Number}
+use Rattle.std.specs.Prelude.{Option, Some, None}
 use Rattle.terms.specs.Terms.{Name, started, working, waiting, key, inserted, removed, present, absent, end, refused}
 use Rattle.terms.specs.Terms.{name_of, values_of}
 use Rattle.terms.specs.declared.Op.{Op}
@@ -51,10 +51,10 @@ unfoldable pub comma_in : List ℕ → ℕ
 comma_in [] = 0
 comma_in (b ∷ s) = cond (eqb b 44) 0 (suc (comma_in s))
 
-abbrev pub both : Number → Number → Two
-both (Number.Is a) (Number.Is b) = Two.Are a b
-both (Number.Is a) Number.Not = Two.Not
-both Number.Not n = Two.Not
+abbrev pub both : Option ℕ → Option ℕ → Two
+both (Some a) (Some b) = Two.Are a b
+both (Some a) None = Two.Not
+both None n = Two.Not
 
 unfoldable pub two_in : List ℕ → Two
 two_in s =
@@ -63,9 +63,9 @@ two_in s =
 
 -- ---- a line in, without its byte 10
 
-abbrev pub or_one : Number → (ℕ → Line) → Line → Line
-or_one (Number.Is a) f other = f a
-or_one Number.Not f other = other
+abbrev pub or_one : Option ℕ → (ℕ → Line) → Line → Line
+or_one (Some a) f other = f a
+or_one None f other = other
 
 abbrev pub or_two : Two → (ℕ → ℕ → Line) → Line → Line
 or_two (Two.Are a b) f other = f a b

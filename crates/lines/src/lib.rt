@@ -13,7 +13,6 @@ ghost use Rattle.lines.specs.Lines.{one_of, more, words_of, answer_line, refused
 
 use sixteen::Call;
 use terms::{Answer, Op, Refusal};
-use text::Number;
 
 // Two numbers with a comma between them.
 #[derive(Clone, Copy)]
@@ -50,11 +49,11 @@ fn two_numbers(s: &[u8]) -> Two
     if c < s.len() {
         let d = c + 1;
         match text::read_number(&s[..c]) {
-            Number::Is(a) => match text::read_number(&s[d..]) {
-                Number::Is(b) => Two::Are(a, b),
-                Number::Not => Two::Not,
+            Some(a) => match text::read_number(&s[d..]) {
+                Some(b) => Two::Are(a, b),
+                None => Two::Not,
             },
-            Number::Not => Two::Not,
+            None => Two::Not,
         }
     } else {
         Two::Not
@@ -66,14 +65,14 @@ fn with_key(head: &[u8], k: u32) -> Line
     ensures { result ≡ keyed head.now k }
 {
     match text::field(head, b"remove=") {
-        Number::Is(s) => {
+        Some(s) => {
             return Line::Is(Call::Start(s, Op::Remove(k)));
         }
-        Number::Not => {}
+        None => {}
     }
     match text::field(head, b"has=") {
-        Number::Is(s) => Line::Is(Call::Start(s, Op::Has(k))),
-        Number::Not => Line::Bad,
+        Some(s) => Line::Is(Call::Start(s, Op::Has(k))),
+        None => Line::Bad,
     }
 }
 
@@ -82,14 +81,14 @@ fn with_two(head: &[u8], a: u32, b: u32) -> Line
     ensures { result ≡ paired head.now a b }
 {
     match text::field(head, b"insert=") {
-        Number::Is(s) => {
+        Some(s) => {
             return Line::Is(Call::Start(s, Op::Insert(a, b)));
         }
-        Number::Not => {}
+        None => {}
     }
     match text::field(head, b"range=") {
-        Number::Is(s) => Line::Is(Call::Start(s, Op::Range(a, b))),
-        Number::Not => Line::Bad,
+        Some(s) => Line::Is(Call::Start(s, Op::Range(a, b))),
+        None => Line::Bad,
     }
 }
 
@@ -98,10 +97,10 @@ fn read_start(head: &[u8], tail: &[u8]) -> Line
     ensures { result ≡ start_in head.now tail.now }
 {
     match text::read_number(tail) {
-        Number::Is(k) => {
+        Some(k) => {
             return with_key(head, k);
         }
-        Number::Not => {}
+        None => {}
     }
     match two_numbers(tail) {
         Two::Are(a, b) => with_two(head, a, b),
@@ -119,8 +118,8 @@ pub fn read_line(l: &[u8]) -> Line
         return read_start(&l[..c], &l[d..]);
     }
     match text::field(l, b"step=") {
-        Number::Is(s) => Line::Is(Call::Step(s)),
-        Number::Not => Line::Bad,
+        Some(s) => Line::Is(Call::Step(s)),
+        None => Line::Bad,
     }
 }
 

@@ -12,7 +12,7 @@ use lib.Seq.{drop-drop, drop-append-add}
 use lib.Dec.{eqb, leb}
 use borrow.Author.Tests.{le-leb, lt-leb, eq-eqb, eqb-true, leb-true, leb-false}
 use Rattle.text.specs.Text.{largest, digits, Lines, line, lines_of, ends, class_of, field_in}
-use Rattle.text.specs.declared.Number.{Number}
+use Rattle.std.specs.Prelude.{Option, Some, None}
 use Rattle.text.proofs.Basics.{impossible, split}
 use Rattle.text.proofs.Back.{plain, plain_append, plain_digits, lines_plain, field_back}
 use Rattle.text.proofs.OneWay.{field_only, line_only}
@@ -37,46 +37,46 @@ edition_says : (most : ℕ) (l : List ℕ) → Says most State.Edition l (editio
 unfolding edition_of
 edition_says most l = by (field_in edition_name l) refl
   where
-    one : (n : ℕ) (t : Bool) → eqb n 1 ≡ t → field_in edition_name l ≡ Number.Is n →
+    one : (n : ℕ) (t : Bool) → eqb n 1 ≡ t → field_in edition_name l ≡ Some n →
         Says most State.Edition l (cond t (Next.On State.Stamp) Next.Bad)
     one n true e f =
         let z : n ≡ 1 = eqb-true n 1 e in
         (edition_line refl (rw z at (field_only edition_name l n f).0) refl, λ h. omega arith)
     one n false e f = tt
 
-    by : (a : Number) → field_in edition_name l ≡ a →
+    by : (a : Option ℕ) → field_in edition_name l ≡ a →
         Says most State.Edition l (on_is a (λ n. cond (eqb n 1) (Next.On State.Stamp) Next.Bad) Next.Bad)
-    by (Number.Is n) f = one n (eqb n 1) refl f
-    by Number.Not f = tt
+    by (Some n) f = one n (eqb n 1) refl f
+    by None f = tt
 
 stamp_says : (most : ℕ) (l : List ℕ) → Says most State.Stamp l (stamp_of l)
 unfolding stamp_of
 stamp_says most l = by (field_in stamp_name l) refl
   where
-    by : (a : Number) → field_in stamp_name l ≡ a →
+    by : (a : Option ℕ) → field_in stamp_name l ≡ a →
         Says most State.Stamp l (on_is a (λ n. Next.On (State.Key n 0 0)) Next.Bad)
-    by (Number.Is n) f =
+    by (Some n) f =
         let is = field_only stamp_name l n f in (stamp_line n is.1 refl is.0 refl, λ h. omega arith)
-    by Number.Not f = tt
+    by None f = tt
 
 value_says : (most stamp count last : ℕ) (l : List ℕ) →
     Says most (State.Value stamp count last) l (value_of stamp count last l)
 unfolding value_of
 value_says most stamp count last l = by (field_in value_name l) refl
   where
-    by : (a : Number) → field_in value_name l ≡ a →
+    by : (a : Option ℕ) → field_in value_name l ≡ a →
         Says most (State.Value stamp count last) l (on_is a (λ n. Next.On (State.Key stamp count last)) Next.Bad)
-    by (Number.Is n) f =
+    by (Some n) f =
         let is = field_only value_name l n f in
         (value_line stamp count last n is.1 refl is.0 refl, λ h. h)
-    by Number.Not f = tt
+    by None f = tt
 
 count_says : (most stamp count last : ℕ) (l : List ℕ) →
     Says most (State.Key stamp count last) l (count_of stamp count l)
 unfolding count_of
 count_says most stamp count last l = by (field_in count_name l) refl
   where
-    one : (n : ℕ) (t : Bool) → eqb n count ≡ t → field_in count_name l ≡ Number.Is n →
+    one : (n : ℕ) (t : Bool) → eqb n count ≡ t → field_in count_name l ≡ Some n →
         Says most (State.Key stamp count last) l (cond t (Next.On (State.Whole stamp count)) Next.Bad)
     one n true e f =
         let z : n ≡ count = eqb-true n count e in
@@ -84,11 +84,11 @@ count_says most stamp count last l = by (field_in count_name l) refl
         (count_line stamp count last is.1 refl is.0 refl, λ h. h)
     one n false e f = tt
 
-    by : (a : Number) → field_in count_name l ≡ a →
+    by : (a : Option ℕ) → field_in count_name l ≡ a →
         Says most (State.Key stamp count last) l
         (on_is a (λ n. cond (eqb n count) (Next.On (State.Whole stamp count)) Next.Bad) Next.Bad)
-    by (Number.Is n) f = one n (eqb n count) refl f
-    by Number.Not f = tt
+    by (Some n) f = one n (eqb n count) refl f
+    by None f = tt
 
 key_says : (most stamp count last : ℕ) (l : List ℕ) →
     Says most (State.Key stamp count last) l (key_of most stamp count last l)
@@ -96,7 +96,7 @@ unfolding key_of keyed
 key_says most stamp count last l = by (field_in key_name l) refl
   where
     one : (k : ℕ) (t u v : Bool) → leb k last ≡ t → leb largest k ≡ u → leb most count ≡ v →
-        field_in key_name l ≡ Number.Is k →
+        field_in key_name l ≡ Some k →
         Says most (State.Key stamp count last) l
         (cond t Next.Bad (cond u Next.Bad (cond v Next.Many (Next.On (State.Value stamp (count + 1) k)))))
     one k false false false e f g n = (
@@ -113,11 +113,11 @@ key_says most stamp count last l = by (field_in key_name l) refl
     one k true u v e f g n = tt
     one k false true v e f g n = tt
 
-    by : (a : Number) → field_in key_name l ≡ a →
+    by : (a : Option ℕ) → field_in key_name l ≡ a →
         Says most (State.Key stamp count last) l
         (on_is a (λ k. keyed most stamp count last k) (count_of stamp count l))
-    by (Number.Is k) f = one k (leb k last) (leb largest k) (leb most count) refl refl refl f
-    by Number.Not f = count_says most stamp count last l
+    by (Some k) f = one k (leb k last) (leb largest k) (leb most count) refl refl refl f
+    by None f = count_says most stamp count last l
 
 step_says : (most : ℕ) (st : State) (l : List ℕ) → Says most st l (step_of most st l)
 step_says most State.Edition l = edition_says most l

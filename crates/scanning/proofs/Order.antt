@@ -6,54 +6,54 @@ use mathlib.Core.Path.{◌≡◌}
 use mathlib.Core.List.{List}
 use borrow.Author.Tests.{le-leb, lt-leb, eq-eqb, ne_eqb}
 use Rattle.text.specs.Text.{largest, field_in}
-use Rattle.text.specs.declared.Number.{Number}
+use Rattle.std.specs.Prelude.{Option, Some, None}
 use Rattle.listing.specs.Listing.{edition_name, stamp_name, key_name, value_name, count_name}
 use Rattle.scanning.specs.Reading.{edition_of, stamp_of, value_of, count_of, keyed, key_of, step_of, ended_of}
 use Rattle.scanning.specs.declared.State.{State}
 use Rattle.scanning.specs.declared.Next.{Next}
 use Rattle.scanning.specs.declared.Reading.{Reading}
 
-module _ (l : List ℕ) (n : Number) (f : n ≡ field_in edition_name l) where
-  pub edition_one : (k : ℕ) → n ≡ Number.Is k → k ≡ 1 → Next.On State.Stamp ≡ edition_of l
+module _ (l : List ℕ) (n : Option ℕ) (f : n ≡ field_in edition_name l) where
+  pub edition_one : (k : ℕ) → n ≡ Some k → k ≡ 1 → Next.On State.Stamp ≡ edition_of l
   unfolding edition_of
   edition_one k e h = rw (← f, e, eq-eqb k 1 h)
 
-  pub edition_other : (k : ℕ) → n ≡ Number.Is k → (k ≡ 1 → ⊥) → Next.Bad ≡ edition_of l
+  pub edition_other : (k : ℕ) → n ≡ Some k → (k ≡ 1 → ⊥) → Next.Bad ≡ edition_of l
   unfolding edition_of
   edition_other k e h = rw (← f, e, ne_eqb k 1 h)
 
-  pub edition_not : n ≡ Number.Not → Next.Bad ≡ edition_of l
+  pub edition_not : n ≡ None → Next.Bad ≡ edition_of l
   unfolding edition_of
   edition_not e = rw (← f, e)
 
-module _ (l : List ℕ) (n : Number) (f : n ≡ field_in stamp_name l) where
-  pub stamp_is : (k : ℕ) → n ≡ Number.Is k → Next.On (State.Key k 0 0) ≡ stamp_of l
+module _ (l : List ℕ) (n : Option ℕ) (f : n ≡ field_in stamp_name l) where
+  pub stamp_is : (k : ℕ) → n ≡ Some k → Next.On (State.Key k 0 0) ≡ stamp_of l
   unfolding stamp_of
   stamp_is k e = rw (← f, e)
 
-  pub stamp_not : n ≡ Number.Not → Next.Bad ≡ stamp_of l
+  pub stamp_not : n ≡ None → Next.Bad ≡ stamp_of l
   unfolding stamp_of
   stamp_not e = rw (← f, e)
 
-module _ (stamp count last : ℕ) (l : List ℕ) (n : Number) (f : n ≡ field_in value_name l) where
-  pub value_is : (k : ℕ) → n ≡ Number.Is k → Next.On (State.Key stamp count last) ≡ value_of stamp count last l
+module _ (stamp count last : ℕ) (l : List ℕ) (n : Option ℕ) (f : n ≡ field_in value_name l) where
+  pub value_is : (k : ℕ) → n ≡ Some k → Next.On (State.Key stamp count last) ≡ value_of stamp count last l
   unfolding value_of
   value_is k e = rw (← f, e)
 
-  pub value_not : n ≡ Number.Not → Next.Bad ≡ value_of stamp count last l
+  pub value_not : n ≡ None → Next.Bad ≡ value_of stamp count last l
   unfolding value_of
   value_not e = rw (← f, e)
 
-module _ (stamp count : ℕ) (l : List ℕ) (n : Number) (f : n ≡ field_in count_name l) where
-  pub count_true : (k : ℕ) → n ≡ Number.Is k → k ≡ count → Next.On (State.Whole stamp count) ≡ count_of stamp count l
+module _ (stamp count : ℕ) (l : List ℕ) (n : Option ℕ) (f : n ≡ field_in count_name l) where
+  pub count_true : (k : ℕ) → n ≡ Some k → k ≡ count → Next.On (State.Whole stamp count) ≡ count_of stamp count l
   unfolding count_of
   count_true k e h = rw (← f, e, eq-eqb k count h)
 
-  pub count_other : (k : ℕ) → n ≡ Number.Is k → (k ≡ count → ⊥) → Next.Bad ≡ count_of stamp count l
+  pub count_other : (k : ℕ) → n ≡ Some k → (k ≡ count → ⊥) → Next.Bad ≡ count_of stamp count l
   unfolding count_of
   count_other k e h = rw (← f, e, ne_eqb k count h)
 
-  pub count_not : n ≡ Number.Not → Next.Bad ≡ count_of stamp count l
+  pub count_not : n ≡ None → Next.Bad ≡ count_of stamp count l
   unfolding count_of
   count_not e = rw (← f, e)
 
@@ -75,13 +75,13 @@ module _ (most stamp count last k : ℕ) where
   unfolding keyed
   key_more h e m = rw (lt-leb k last h, lt-leb largest k e, lt-leb most count m)
 
-module _ (most stamp count last : ℕ) (l : List ℕ) (n : Number) (f : n ≡ field_in key_name l) where
-  pub key_is : (k : ℕ) (r : Next) → n ≡ Number.Is k → r ≡ keyed most stamp count last k →
+module _ (most stamp count last : ℕ) (l : List ℕ) (n : Option ℕ) (f : n ≡ field_in key_name l) where
+  pub key_is : (k : ℕ) (r : Next) → n ≡ Some k → r ≡ keyed most stamp count last k →
       r ≡ key_of most stamp count last l
   unfolding key_of
   key_is k r e h = rw (← f, e, h)
 
-  pub key_not : (r : Next) → n ≡ Number.Not → r ≡ count_of stamp count l → r ≡ key_of most stamp count last l
+  pub key_not : (r : Next) → n ≡ None → r ≡ count_of stamp count l → r ≡ key_of most stamp count last l
   unfolding key_of
   key_not r e h = rw (← f, e, h)
 

@@ -10,7 +10,7 @@ use lib.ListN.{length, take, drop, length-drop, set, drop_of_length-le}
 use lib.Seq.{sets, set_out, length-take-le}
 use Rattle.text.specs.Text.{Lines, over, torn, line, lines_of, seen, field_in}
 use Rattle.text.specs.declared.Seen.{Seen}
-use Rattle.text.specs.declared.Number.{Number}
+use Rattle.std.specs.Prelude.{Option, Some, None}
 use Rattle.text.proofs.Lines.{cut_at}
 use Rattle.text.proofs.Write.{sets_append}
 use Rattle.listing.specs.Listing.{key_name, value_name}
@@ -126,27 +126,27 @@ pub ruleset checked = (check_on, check_stop, check_falls, check_starts)
 
 -- ---- numbers by name
 
-module _ (l : List ℕ) (i : ℕ) (n : Number) where
-  pub keep_room : (v : ℕ) → n ≡ Number.Is v → set l i v ≡ sets l i (one n)
+module _ (l : List ℕ) (i : ℕ) (n : Option ℕ) where
+  pub keep_room : (v : ℕ) → n ≡ Some v → set l i v ≡ sets l i (one n)
   keep_room v e = rw e
 
-  pub keep_full : (v : ℕ) → n ≡ Number.Is v → length l ≤ i → l ≡ sets l i (one n)
+  pub keep_full : (v : ℕ) → n ≡ Some v → length l ≤ i → l ≡ sets l i (one n)
   keep_full v e h = rw (e, set_out l i v h)
 
-  pub keep_not : n ≡ Number.Not → l ≡ sets l i (one n)
+  pub keep_not : n ≡ None → l ≡ sets l i (one n)
   keep_not e = rw e
 
-  pub keep_next : (v : ℕ) → n ≡ Number.Is v → i + 1 ≡ i + length (one n)
+  pub keep_next : (v : ℕ) → n ≡ Some v → i + 1 ≡ i + length (one n)
   keep_next v e = rw e
 
-  pub keep_same : n ≡ Number.Not → i ≡ i + length (one n)
+  pub keep_same : n ≡ None → i ≡ i + length (one n)
   keep_same e = rw (e, add-zero)
 
 pub ruleset kept = (keep_room, keep_full, keep_not, keep_next, keep_same)
 
-pub at_most_one : (n : Number) → length (one n) ≤ 1
-at_most_one (Number.Is v) = omega arith
-at_most_one Number.Not = omega arith
+pub at_most_one : (n : Option ℕ) → length (one n) ≤ 1
+at_most_one (Some v) = omega arith
+at_most_one None = omega arith
 
 module _ (name s o l : List ℕ) (p i : ℕ)
     (inv : sets o 0 (numbers_in name (lines_of s)) ≡ sets l i (numbers_in name (lines_of (drop p s)))) where
@@ -164,7 +164,7 @@ module _ (name s o l : List ℕ) (p i : ℕ)
   unfolding numbers_in lines_of
   gather_all h = rw (inv, drop_of_length-le s h)
 
-  pub gather_on : (v : Seen) (e : ℕ) (n : Number) (m : List ℕ) (j : ℕ) →
+  pub gather_on : (v : Seen) (e : ℕ) (n : Option ℕ) (m : List ℕ) (j : ℕ) →
       v ≡ seen p (lines_of (drop p s)) → v ≡ Seen.Line e → n ≡ field_in name (take (e - p) (drop p s)) →
       j ≡ i + length (one n) → m ≡ sets l i (one n) →
       sets o 0 (numbers_in name (lines_of s)) ≡ sets m j (numbers_in name (lines_of (drop (e + 1) s)))
@@ -173,7 +173,7 @@ module _ (name s o l : List ℕ) (p i : ℕ)
       rw (inv, (cut_at s p e (sym g ∙ f)).lines, ← h)
       (rw (sets_append (one n) (numbers_in name (lines_of (drop (e + 1) s))) l i, a, b))
 
-pub gather_index : (s : List ℕ) (p i e j : ℕ) (v : Seen) (n : Number) →
+pub gather_index : (s : List ℕ) (p i e j : ℕ) (v : Seen) (n : Option ℕ) →
     v ≡ seen p (lines_of (drop p s)) → v ≡ Seen.Line e → i ≤ p → j ≡ i + length (one n) → j ≤ e + 1
 gather_index s p i e j v n f g h a = let cut = cut_at s p e (sym g ∙ f) in omega (arith, at_most_one n)
 

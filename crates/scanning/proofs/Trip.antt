@@ -11,7 +11,7 @@ use lib.ListN.{length, take}
 use lib.Seq.{sets}
 use borrow.Author.Tests.{lt-leb, eq-eqb}
 use Rattle.text.specs.Text.{largest, digits, Lines, over, line, lines_of, ends, class_of, field_in, starts_with}
-use Rattle.text.specs.declared.Number.{Number}
+use Rattle.std.specs.Prelude.{Option, Some, None}
 use Rattle.text.proofs.Back.{plain, plain_append, plain_digits, lines_plain, field_back}
 use Rattle.text.proofs.Write.{read_back}
 use Rattle.listing.specs.Listing.{edition_name, stamp_name, key_name, value_name, count_name}
@@ -74,7 +74,7 @@ listing_lines stamp ks vs =
 
 -- ---- checking them
 
-pub no_key : (n : ℕ) → field_in key_name (count_name ++ digits n) ≡ Number.Not
+pub no_key : (n : ℕ) → field_in key_name (count_name ++ digits n) ≡ None
 unfolding field_in starts_with
 no_key n = refl
 

@@ -5,7 +5,7 @@
 use Rattle.std.specs.Prelude.{ℕ, ◌+◌, ◌-◌, List, [], ◌∷◌, ◌++◌, cond, length, take, drop, leb, eqb}
 use Rattle.std.proofs.lemmas.List.Edits.{sets}
 use Rattle.text.specs.Text.{largest, Lines, over, torn, line, lines_of, seen, field_in}
-use Rattle.text.specs.declared.Number.{Number}
+use Rattle.std.specs.Prelude.{Option, Some, None}
 use Rattle.text.specs.declared.Seen.{Seen}
 use Rattle.listing.specs.Listing.{edition_name, stamp_name, key_name, value_name, count_name}
 use Rattle.scanning.specs.declared.State.{State}
@@ -15,9 +15,9 @@ use Rattle.scanning.specs.declared.Reading.{Reading}
 
 -- ---- one line: the edition, the stamp, keys each with its value, the count
 
-abbrev pub on_is : {A : Type 0} → Number → (ℕ → A) → A → A
-on_is (Number.Is n) f a = f n
-on_is Number.Not f a = a
+abbrev pub on_is : {A : Type 0} → Option ℕ → (ℕ → A) → A → A
+on_is (Some n) f a = f n
+on_is None f a = a
 
 unfoldable pub edition_of : List ℕ → Next
 edition_of l = on_is (field_in edition_name l) (λ n. cond (eqb n 1) (Next.On State.Stamp) Next.Bad) Next.Bad
@@ -91,9 +91,9 @@ turn_of most s p st = by_seen most s p st (seen p (lines_of (drop p s)))
 
 -- ---- the numbers of the lines with a name, in order
 
-abbrev pub one : Number → List ℕ
-one (Number.Is n) = n ∷ []
-one Number.Not = []
+abbrev pub one : Option ℕ → List ℕ
+one (Some n) = n ∷ []
+one None = []
 
 unfoldable pub numbers_in : List ℕ → Lines → List ℕ
 numbers_in name over = []

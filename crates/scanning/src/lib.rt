@@ -11,7 +11,7 @@ ghost use Rattle.text.specs.Text.{lines_of, Puts};
 ghost use Rattle.scanning.specs.Reading.{edition_of, stamp_of, value_of, count_of, keyed, key_of, step_of};
 ghost use Rattle.scanning.specs.Reading.{ended_of, turn_of, check_of, one, numbers_in, done, read_of};
 
-use text::{Number, Seen};
+use text::Seen;
 
 // What is to come: the edition, the stamp, a key or the count, a value, or nothing more.
 #[derive(Clone, Copy)]
@@ -50,13 +50,13 @@ fn edition_line(l: &[u8]) -> Next
     ensures { result ≡ edition_of l.now }
 {
     match text::field(l, b"edition=") {
-        Number::Is(n) => {
+        Some(n) => {
             if n == 1 {
                 return Next::On(State::Stamp);
             }
             Next::Bad
         }
-        Number::Not => Next::Bad,
+        None => Next::Bad,
     }
 }
 
@@ -64,12 +64,12 @@ fn stamp_line(l: &[u8]) -> Next
     ensures { result ≡ stamp_of l.now }
 {
     match text::field(l, b"stamp=") {
-        Number::Is(n) => Next::On(State::Key {
+        Some(n) => Next::On(State::Key {
             stamp: n,
             count: 0,
             last: 0,
         }),
-        Number::Not => Next::Bad,
+        None => Next::Bad,
     }
 }
 
@@ -77,8 +77,8 @@ fn value_line(stamp: u32, count: u32, last: u32, l: &[u8]) -> Next
     ensures { result ≡ value_of stamp count last l.now }
 {
     match text::field(l, b"value=") {
-        Number::Is(_) => Next::On(State::Key { stamp, count, last }),
-        Number::Not => Next::Bad,
+        Some(_) => Next::On(State::Key { stamp, count, last }),
+        None => Next::Bad,
     }
 }
 
@@ -86,13 +86,13 @@ fn count_line(stamp: u32, count: u32, l: &[u8]) -> Next
     ensures { result ≡ count_of stamp count l.now }
 {
     match text::field(l, b"count=") {
-        Number::Is(n) => {
+        Some(n) => {
             if n == count {
                 return Next::On(State::Whole { stamp, count });
             }
             Next::Bad
         }
-        Number::Not => Next::Bad,
+        None => Next::Bad,
     }
 }
 
@@ -121,8 +121,8 @@ fn key_line(most: u32, stamp: u32, count: u32, last: u32, l: &[u8]) -> Next
     ensures { result ≡ key_of most stamp count last l.now }
 {
     match text::field(l, b"key=") {
-        Number::Is(k) => key_read(most, stamp, count, last, k),
-        Number::Not => count_line(stamp, count, l),
+        Some(k) => key_read(most, stamp, count, last, k),
+        None => count_line(stamp, count, l),
     }
 }
 
@@ -194,19 +194,19 @@ pub fn check(most: u32, input: &[u8]) -> Reading
 }
 
 // Stores n at i, where it is a number and there is room, and answers the next place.
-fn keep(out: &mut [u32], i: usize, n: Number) -> usize
+fn keep(out: &mut [u32], i: usize, n: Option<u32>) -> usize
     requires { i ≤ 9223372036854775807 }
     ensures { Puts out.old out.new i (one n) result }
 {
     match n {
-        Number::Is(v) => {
+        Some(v) => {
             if i < out.len() {
                 out[i] = v;
                 return i + 1;
             }
             i + 1
         }
-        Number::Not => i,
+        None => i,
     }
 }
 

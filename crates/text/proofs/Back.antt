@@ -14,7 +14,7 @@ use borrow.Author.Tests.{eq-eqb}
 use Rattle.text.specs.Text.{largest, class_of, ends, digits, digits_in, number_in, line}
 use Rattle.text.specs.Text.{joined}
 use Rattle.text.specs.Text.{lines_of, starts_with, field_in}
-use Rattle.text.specs.declared.Number.{Number}
+use Rattle.std.specs.Prelude.{Some}
 use Rattle.text.proofs.Write.{digit_class, read_back}
 use Rattle.text.proofs.Basics.{impossible}
 
@@ -69,13 +69,13 @@ starts_back [] s = refl
 starts_back (a ∷ n) s = rw (eq-eqb a a refl, starts_back n s)
 
 -- a name and the digits of a number
-pub field_back : (name : List ℕ) (n : ℕ) → n ≤ largest → field_in name (name ++ digits n) ≡ Number.Is n
+pub field_back : (name : List ℕ) (n : ℕ) → n ≤ largest → field_in name (name ++ digits n) ≡ Some n
 unfolding field_in
 field_back name n h = rw (starts_back name (digits n), drop-append_seam name (digits n), read_back n h)
 
 -- in an output: the bytes from the place to the place that writing answers read as the number
 pub read_put : (o : List ℕ) (p n : ℕ) → p + length (digits n) ≤ length o → n ≤ largest →
-    number_in (take (p + length (digits n) - p) (drop p (sets o p (digits n)))) ≡ Number.Is n
+    number_in (take (p + length (digits n) - p) (drop p (sets o p (digits n)))) ≡ Some n
 read_put o p n room h =
     let z : p + length (digits n) - p ≡ length (digits n) = omega arith in
     let w : p ≤ length o = omega arith in

@@ -16,7 +16,7 @@ use borrow.Author.Tests.{eq-eqb, ne_eqb}
 use Rattle.text.specs.Text.{class_of, ends, torn, line, joined, lines_of, seen}
 use Rattle.text.specs.Text.{line_length, starts_with, field_in, number_in}
 use Rattle.text.specs.declared.Byte.{Byte}
-use Rattle.text.specs.declared.Number.{Number}
+use Rattle.std.specs.Prelude.{Option, None}
 use Rattle.text.specs.declared.Seen.{Seen}
 use Rattle.text.proofs.Basics.{impossible, split}
 
@@ -211,14 +211,14 @@ begins_length (a ∷ n) (b ∷ s) h = by (eqb b a) (λ k. begins_length n s k) h
 pub starts_length : (n s : List ℕ) (t : Bool) → t ≡ starts_with n s → t ≡ true → length n ≤ length s
 starts_length n s t h e = begins_length n s (cc)
 
-pub field_is : (n s : List ℕ) (r : Number) (t : Bool) → t ≡ starts_with n s → t ≡ true →
+pub field_is : (n s : List ℕ) (r : Option ℕ) (t : Bool) → t ≡ starts_with n s → t ≡ true →
     r ≡ number_in (take (length s - length n) (drop (length n) s)) → r ≡ field_in n s
 unfolding field_in
 field_is n s r t e y h =
     let z : length (drop (length n) s) ≤ length s - length n = omega (arith, length-drop (length n) s) in
     rw (← e, y, h, take_all (length s - length n) (drop (length n) s) z)
 
-pub field_not : (n s : List ℕ) (t : Bool) → t ≡ starts_with n s → t ≡ false → Number.Not ≡ field_in n s
+pub field_not : (n s : List ℕ) (t : Bool) → t ≡ starts_with n s → t ≡ false → None ≡ field_in n s
 unfolding field_in
 field_not n s t e y = rw (← e, y)
 

@@ -16,7 +16,7 @@ use Rattle.text.specs.Text.{with_digit}
 use Rattle.text.specs.Text.{with_byte, grow, grows, whole, number_in, digits, starts_with, field_in}
 use Rattle.text.specs.declared.Byte.{Byte}
 use Rattle.text.specs.declared.Partial.{Partial}
-use Rattle.text.specs.declared.Number.{Number}
+use Rattle.std.specs.Prelude.{Some, None}
 use Rattle.text.proofs.Write.{one_digit, more_digits}
 use Rattle.text.proofs.Basics.{impossible}
 
@@ -82,7 +82,7 @@ only_more (x ∷ l) v n p b h = by (class_of x) refl (λ w q c k. only_more l w 
     by Byte.LineEnd e ih k = not_is l n k
     by Byte.Other e ih k = not_is l n k
 
-whole_is : (p : Partial) (n : ℕ) → whole p ≡ Number.Is n → p ≡ Partial.Is n
+whole_is : (p : Partial) (n : ℕ) → whole p ≡ Some n → p ≡ Partial.Is n
 whole_is Partial.Empty n h = impossible (cc)
 whole_is (Partial.Is v) n h = let z : v ≡ n = cc in rw z
 whole_is Partial.Not n h = impossible (cc)
@@ -117,7 +117,7 @@ only_grown (x ∷ l) n h = by (class_of x) refl h
     by Byte.Other e k = not_is l n k
 
 -- what reads as n is how n is written
-pub number_only : (l : List ℕ) (n : ℕ) → number_in l ≡ Number.Is n → (l ≡ digits n) × (n ≤ largest)
+pub number_only : (l : List ℕ) (n : ℕ) → number_in l ≡ Some n → (l ≡ digits n) × (n ≤ largest)
 unfolding number_in
 number_only l n h = only_grown l n (whole_is (grows Partial.Empty l) n h)
 
@@ -133,11 +133,11 @@ starts_only (a ∷ n) (b ∷ s) h = by (eqb b a) refl (λ k. starts_only n s k) 
     by false e ih k = impossible (cc)
 
 -- and a line that reads as a name and n is that name and n's digits
-pub field_only : (name s : List ℕ) (n : ℕ) → field_in name s ≡ Number.Is n → (s ≡ name ++ digits n) × (n ≤ largest)
+pub field_only : (name s : List ℕ) (n : ℕ) → field_in name s ≡ Some n → (s ≡ name ++ digits n) × (n ≤ largest)
 unfolding field_in
 field_only name s n = by (starts_with name s) refl
   where
-    by : (t : Bool) → starts_with name s ≡ t → cond t (number_in (drop (length name) s)) Number.Not ≡ Number.Is n →
+    by : (t : Bool) → starts_with name s ≡ t → cond t (number_in (drop (length name) s)) None ≡ Some n →
         (s ≡ name ++ digits n) × (n ≤ largest)
     by true e k =
         let is = number_only (drop (length name) s) n k in

@@ -12,7 +12,7 @@ use lib.Seq.{drop-cons}
 use borrow.Author.Tests.{le-leb, lt-leb, eq-eqb, ne_eqb}
 use Rattle.text.specs.Text.{largest, class_of, with_digit, grow, grows, whole, number_in}
 use Rattle.text.specs.declared.Byte.{Byte}
-use Rattle.text.specs.declared.Number.{Number}
+use Rattle.std.specs.Prelude.{Some, None}
 use Rattle.text.specs.declared.Partial.{Partial}
 
 pub digit : (b : ℕ) → 48 ≤ b → b < 58 → Byte.Digit (b - 48) ≡ class_of b
@@ -83,13 +83,13 @@ module _ (s : List ℕ) (n : Partial) (i : ℕ) (inv : grows Partial.Empty s ≡
   unfolding number_in grows
   read_all h = rw (inv, drop_of_length-le s h)
 
-  pub read_number : (v : ℕ) → length s ≤ i → n ≡ Partial.Is v → Number.Is v ≡ number_in s
+  pub read_number : (v : ℕ) → length s ≤ i → n ≡ Partial.Is v → Some v ≡ number_in s
   read_number v h e = rw (e) at (read_all h)
 
-  pub read_empty : length s ≤ i → n ≡ Partial.Empty → Number.Not ≡ number_in s
+  pub read_empty : length s ≤ i → n ≡ Partial.Empty → None ≡ number_in s
   read_empty h e = rw (e) at (read_all h)
 
-  pub read_not : length s ≤ i → n ≡ Partial.Not → Number.Not ≡ number_in s
+  pub read_not : length s ≤ i → n ≡ Partial.Not → None ≡ number_in s
   read_not h e = rw (e) at (read_all h)
 
 pub ruleset number_read = (read_on, read_number, read_empty, read_not)

@@ -15,7 +15,7 @@ use Rattle.text.proofs.Basics.{split}
 use borrow.Author.Tests.{lt-ltb, le-ltb, le-leb, ne_eqb, ltb-true, ltb-false}
 use Rattle.text.specs.Text.{largest, class_of, with_digit, grow, grows, whole, number_in, digits, digits_in}
 use Rattle.text.specs.declared.Byte.{Byte}
-use Rattle.text.specs.declared.Number.{Number}
+use Rattle.std.specs.Prelude.{Some}
 use Rattle.text.specs.declared.Partial.{Partial}
 
 -- ---- one digit, or the digits of n / 10 and one more
@@ -179,7 +179,7 @@ read_back_in (suc f) n h b =
     (split n 10)
 
 -- the law: what was written is read as the number
-pub read_back : (n : ℕ) → n ≤ largest → number_in (digits n) ≡ Number.Is n
+pub read_back : (n : ℕ) → n ≤ largest → number_in (digits n) ≡ Some n
 unfolding number_in
 read_back n b = ap whole (read_back_in 10 n (omega (arith, b)) b)
 

@@ -6,7 +6,7 @@ use Rattle.std.specs.Prelude.{ℕ, zero, suc, ◌+◌, ◌-◌, ◌*◌, ◌/◌
 use Rattle.std.specs.Prelude.{Bool, true, false, cond, ◌≡◌, ltb, leb, eqb}
 use Rattle.std.proofs.lemmas.List.Edits.{sets}
 use Rattle.text.specs.declared.Byte.{Byte}
-use Rattle.text.specs.declared.Number.{Number}
+use Rattle.std.specs.Prelude.{Option, Some, None}
 use Rattle.text.specs.declared.Partial.{Partial}
 use Rattle.text.specs.declared.Seen.{Seen}
 
@@ -40,13 +40,13 @@ unfoldable pub grows : Partial → List ℕ → Partial
 grows n [] = n
 grows n (b ∷ s) = grows (grow n b) s
 
-abbrev pub whole : Partial → Number
-whole Partial.Empty = Number.Not
-whole (Partial.Is n) = Number.Is n
-whole Partial.Not = Number.Not
+abbrev pub whole : Partial → Option ℕ
+whole Partial.Empty = None
+whole (Partial.Is n) = Some n
+whole Partial.Not = None
 
 -- what all the bytes are as one number
-unfoldable pub number_in : List ℕ → Number
+unfoldable pub number_in : List ℕ → Option ℕ
 number_in s = whole (grows Partial.Empty s)
 
 -- ---- writing one: 20 digits are enough for 64 bits
@@ -107,5 +107,5 @@ starts_with (a ∷ n) [] = false
 starts_with (a ∷ n) (b ∷ s) = cond (eqb b a) (starts_with n s) false
 
 -- the number after the name, where the line begins with it
-unfoldable pub field_in : List ℕ → List ℕ → Number
-field_in n s = cond (starts_with n s) (number_in (drop (length n) s)) Number.Not
+unfoldable pub field_in : List ℕ → List ℕ → Option ℕ
+field_in n s = cond (starts_with n s) (number_in (drop (length n) s)) None

@@ -18,13 +18,6 @@ pub enum Byte {
     Other,
 }
 
-// What a whole row of bytes is.
-#[derive(Clone, Copy)]
-pub enum Number {
-    Is(u32),
-    Not,
-}
-
 // What the first bytes of a row are as a number: nothing yet, a number, or none.
 #[derive(Clone, Copy)]
 pub enum Partial {
@@ -84,7 +77,7 @@ fn grown(n: Partial, b: u8) -> Partial
 }
 
 // What the whole of s is as a number.
-pub fn read_number(s: &[u8]) -> Number
+pub fn read_number(s: &[u8]) -> Option<u32>
     ensures { result ≡ number_in s.now }
 {
     let mut n = Partial::Empty;
@@ -94,9 +87,9 @@ pub fn read_number(s: &[u8]) -> Number
         i += 1;
     }
     match n {
-        Partial::Empty => Number::Not,
-        Partial::Is(v) => Number::Is(v),
-        Partial::Not => Number::Not,
+        Partial::Empty => None,
+        Partial::Is(v) => Some(v),
+        Partial::Not => None,
     }
 }
 
@@ -195,12 +188,12 @@ fn starts(s: &[u8], name: &[u8]) -> bool
 }
 
 // The number after the name in the line s.
-pub fn field(s: &[u8], name: &[u8]) -> Number
+pub fn field(s: &[u8], name: &[u8]) -> Option<u32>
     ensures { result ≡ field_in name.now s.now }
 {
     if starts(s, name) {
         let k = name.len();
         return read_number(&s[k..]);
     }
-    Number::Not
+    None
 }
