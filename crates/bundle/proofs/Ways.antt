@@ -2,6 +2,7 @@
 -- then is.
 -- In order: one entry of a scan; the wait; rule B3's loop; rule B4; is the newest pending; laying; finishing. Assumes
 -- nothing.
+use Rattle.std.specs.Prelude.{Ok, Err}
 use Prim.Native.Nat.{ℕ, zero, suc, ◌-◌, ◌≤◌, ◌<◌}
 use mathlib.Core.Path.{◌≡◌}
 use mathlib.Core.List.{List}
@@ -11,7 +12,6 @@ use native.Mathlib.Omega.{arith}
 use borrow.Author.Tests.{le-leb, lt-leb, eq-eqb, ne_eqb}
 use Rattle.bundle.specs.Bundle.{word_at, put_at, look_of, go_on, scan_of, holds_up, at_of, newest_of, held_of, lay_of}
 use Rattle.bundle.specs.Bundle.{finish_of}
-use Rattle.bundle.specs.declared.Read.{Read}
 use Rattle.bundle.specs.declared.Held.{Held}
 use Rattle.bundle.specs.declared.Look.{Look}
 
@@ -33,19 +33,19 @@ module _ (size : ℕ) (es : List ℕ) (link s : ℕ) where
   unfolding holds_up
   up_past some past = simp (ne_eqb link 0 some, lt-leb link size past)
 
-  pub newest_none : link ≡ 0 → Read.Damaged ≡ newest_of size es link
+  pub newest_none : link ≡ 0 → Err Held.Damaged ≡ newest_of size es link
   unfolding newest_of
   newest_none none = simp (eq-eqb link 0 none)
 
-  pub newest_past : (link ≡ 0 → ⊥) → size < link → Read.Damaged ≡ newest_of size es link
+  pub newest_past : (link ≡ 0 → ⊥) → size < link → Err Held.Damaged ≡ newest_of size es link
   unfolding newest_of
   newest_past some past = simp (ne_eqb link 0 some, lt-leb link size past)
 
-  pub held_none : link ≡ 0 → Held.Free ≡ held_of size es link
+  pub held_none : link ≡ 0 → Ok tt ≡ held_of size es link
   unfolding held_of
   held_none none = simp (eq-eqb link 0 none)
 
-  pub held_past : (link ≡ 0 → ⊥) → size < link → Held.Damaged ≡ held_of size es link
+  pub held_past : (link ≡ 0 → ⊥) → size < link → Err Held.Damaged ≡ held_of size es link
   unfolding held_of
   held_past some past = simp (ne_eqb link 0 some, lt-leb link size past)
 
@@ -78,20 +78,20 @@ module _ (size : ℕ) (es : List ℕ) (link s : ℕ) (some : link ≡ 0 → ⊥)
   up_pending c pends hc =
       simp (ne_eqb link 0 some, le-leb link size within, ← word, ne_eqb p 0 pends, hc)
 
-  pub newest_final : (t : ℕ) → p ≡ 0 → t ≡ word_at es (link - 1) 0 → Read.Take t ≡ newest_of size es link
+  pub newest_final : (t : ℕ) → p ≡ 0 → t ≡ word_at es (link - 1) 0 → Ok t ≡ newest_of size es link
   unfolding newest_of
   newest_final t final ht =
       simp (ne_eqb link 0 some, le-leb link size within, ← word, eq-eqb p 0 final, ht)
 
-  pub newest_pending : (p ≡ 0 → ⊥) → Read.Wait ≡ newest_of size es link
+  pub newest_pending : (p ≡ 0 → ⊥) → Err Held.Wait ≡ newest_of size es link
   unfolding newest_of
   newest_pending pends = simp (ne_eqb link 0 some, le-leb link size within, ← word, ne_eqb p 0 pends)
 
-  pub held_final : p ≡ 0 → Held.Free ≡ held_of size es link
+  pub held_final : p ≡ 0 → Ok tt ≡ held_of size es link
   unfolding held_of
   held_final final = simp (ne_eqb link 0 some, le-leb link size within, ← word, eq-eqb p 0 final)
 
-  pub held_pending : (p ≡ 0 → ⊥) → Held.Wait ≡ held_of size es link
+  pub held_pending : (p ≡ 0 → ⊥) → Err Held.Wait ≡ held_of size es link
   unfolding held_of
   held_pending pends = simp (ne_eqb link 0 some, le-leb link size within, ← word, ne_eqb p 0 pends)
 
@@ -117,14 +117,14 @@ module _ (size : ℕ) (es : List ℕ) (newest s left link : ℕ) (h : Bool) (hel
   at_is_scan = rw (← held, goes, inv)
 
   pub at_taken : (o : Look) (t : ℕ) → 0 < left → o ≡ look_of size es link s → o ≡ Look.Taken t
-      → Read.Take t ≡ at_of size es newest s
+      → Ok t ≡ at_of size es newest s
   at_taken o t some l e = rw (at_is_scan, scan_suc left size es link s some, ← l, e)
 
   pub at_broken : (o : Look) → 0 < left → o ≡ look_of size es link s → o ≡ Look.Broken
-      → Read.Damaged ≡ at_of size es newest s
+      → Err Held.Damaged ≡ at_of size es newest s
   at_broken o some l e = rw (at_is_scan, scan_suc left size es link s some, ← l, e)
 
-  pub at_ended : left ≤ 0 → Read.Damaged ≡ at_of size es newest s
+  pub at_ended : left ≤ 0 → Err Held.Damaged ≡ at_of size es newest s
   unfolding scan_of
   at_ended none = let e : left ≡ 0 = omega arith in rw (at_is_scan, e)
 
@@ -135,7 +135,7 @@ pub at_on : (size : ℕ) (es : List ℕ) (newest s left link older : ℕ) (o : L
 at_on size es newest s left link older o inv some l e = rw (inv, scan_suc left size es link s some, ← l, e)
 
 pub at_waits : (size : ℕ) (es : List ℕ) (newest s : ℕ) (h : Bool) → h ≡ holds_up size es newest s → h ≡ true
-    → Read.Wait ≡ at_of size es newest s
+    → Err Held.Wait ≡ at_of size es newest s
 unfolding at_of
 at_waits size es newest s h held up = rw (← held, up)
 

@@ -2,9 +2,9 @@
 -- In order: words; one entry of a scan; rule B3; rule B4; is the newest pending; laying; finishing. `size` is how
 -- many entries the table holds; `es` is the table; a link is 0 for none, else an entry's number and one more.
 -- Not here: rows as lists and what these definitions are of them (specs/Shows.antt). Assumes nothing.
+use Rattle.std.specs.Prelude.{Result, Ok, Err}
 use Rattle.std.specs.Prelude.{ℕ, zero, suc, ◌-◌, List, Bool, false, cond, ltb, leb, eqb}
 use Rattle.table.specs.Table.{word_of, store_of}
-use Rattle.bundle.specs.declared.Read.{Read}
 use Rattle.bundle.specs.declared.Held.{Held}
 use Rattle.bundle.specs.declared.Look.{Look}
 
@@ -30,14 +30,14 @@ look_of size es link s =
     (Look.Passed (word_at es (link - 1) 3)))
     Look.Broken
 
-abbrev pub go_on : Look → (ℕ → Read) → Read
-go_on (Look.Taken t) on = Read.Take t
+abbrev pub go_on : Look → (ℕ → Result ℕ Held) → Result ℕ Held
+go_on (Look.Taken t) on = Ok t
 go_on (Look.Passed older) on = on older
-go_on Look.Broken on = Read.Damaged
+go_on Look.Broken on = Err Held.Damaged
 
 -- a scan that passes at most so many entries
-unfoldable pub scan_of : ℕ → ℕ → List ℕ → ℕ → ℕ → Read
-scan_of zero size es link s = Read.Damaged
+unfoldable pub scan_of : ℕ → ℕ → List ℕ → ℕ → ℕ → Result ℕ Held
+scan_of zero size es link s = Err Held.Damaged
 scan_of (suc left) size es link s = go_on (look_of size es link s) (λ older. scan_of left size es older s)
 
 -- ---- rule B3: wait where the newest is pending and carries less than s, else the first final entry not above s
@@ -47,21 +47,21 @@ holds_up size es newest s =
     (cond (eqb (word_at es (newest - 1) 2) 0) false (ltb (word_at es (newest - 1) 1) s))
     false
 
-unfoldable pub at_of : ℕ → List ℕ → ℕ → ℕ → Read
-at_of size es newest s = cond (holds_up size es newest s) Read.Wait (scan_of size size es newest s)
+unfoldable pub at_of : ℕ → List ℕ → ℕ → ℕ → Result ℕ Held
+at_of size es newest s = cond (holds_up size es newest s) (Err Held.Wait) (scan_of size size es newest s)
 
 -- ---- rule B4: wait where the newest is pending, else take it
-unfoldable pub newest_of : ℕ → List ℕ → ℕ → Read
+unfoldable pub newest_of : ℕ → List ℕ → ℕ → Result ℕ Held
 newest_of size es newest =
     cond (names size newest)
-    (cond (eqb (word_at es (newest - 1) 2) 0) (Read.Take (word_at es (newest - 1) 0)) Read.Wait)
-    Read.Damaged
+    (cond (eqb (word_at es (newest - 1) 2) 0) (Ok (word_at es (newest - 1) 0)) (Err Held.Wait))
+    (Err Held.Damaged)
 
 -- ---- is the newest pending: an empty row's is not
-unfoldable pub held_of : ℕ → List ℕ → ℕ → Held
+unfoldable pub held_of : ℕ → List ℕ → ℕ → Result (Unit {0}) Held
 held_of size es newest =
-    cond (eqb newest 0) Held.Free
-    (cond (leb newest size) (cond (eqb (word_at es (newest - 1) 2) 0) Held.Free Held.Wait) Held.Damaged)
+    cond (eqb newest 0) (Ok tt)
+    (cond (leb newest size) (cond (eqb (word_at es (newest - 1) 2) 0) (Ok tt) (Err Held.Wait)) (Err Held.Damaged))
 
 -- ---- laying: entry e, pending, carrying the stamp, in front of the row at `older`
 unfoldable pub lay_of : List ℕ → ℕ → ℕ → ℕ → ℕ → List ℕ

@@ -2,11 +2,11 @@
 -- In order: one entry's words; a row of final entries; a bundle; a reader's answer as the code gives it.
 -- `own` lists the entry numbers of a row, newest first: two rows are apart where no number is in both.
 -- Not here: whose row it is, and which rows are apart (the list's). Assumes nothing.
+use Rattle.std.specs.Prelude.{Result, Ok, Err}
 use Rattle.std.specs.Prelude.{ℕ, ◌+◌, ◌<◌, ◌≡◌, List, [], ◌∷◌}
 use Rattle.std.proofs.Math.Option.{none, some}
 use Rattle.order.specs.Rows.{Row, Bundle, final, pending, Seen, wait, found}
 use Rattle.bundle.specs.Bundle.{word_at}
-use Rattle.bundle.specs.declared.Read.{Read}
 use Rattle.bundle.specs.declared.Held.{Held}
 
 module _ (size : ℕ) (es : List ℕ) where
@@ -32,11 +32,11 @@ module _ (size : ℕ) (es : List ℕ) where
   Shows (pending carried target row) (e ∷ own) link = Entry link e target carried 1 × RowAt own row (word_at es e 3)
 
 -- ---- what the code answers where order's reading says this
-abbrev pub as_read : Seen → Read
-as_read wait = Read.Wait
-as_read (found none) = Read.Damaged
-as_read (found (some target)) = Read.Take target
+abbrev pub as_read : Seen → Result ℕ Held
+as_read wait = Err Held.Wait
+as_read (found none) = Err Held.Damaged
+as_read (found (some target)) = Ok target
 
-abbrev pub as_held : Bundle → Held
-as_held (final row) = Held.Free
-as_held (pending carried target row) = Held.Wait
+abbrev pub as_held : Bundle → Result (Unit {0}) Held
+as_held (final row) = Ok tt
+as_held (pending carried target row) = Err Held.Wait

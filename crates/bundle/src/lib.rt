@@ -9,18 +9,9 @@ ghost use Rattle.std.specs.Prelude.{◌≡◌};
 ghost use Rattle.bundle.specs.Bundle.{word_at, put_at, look_of, holds_up, at_of, newest_of, held_of, lay_of};
 ghost use Rattle.bundle.specs.Bundle.{finish_of};
 
-// What a reader of a row is told.
-#[derive(Clone, Copy)]
-pub enum Read {
-    Wait,
-    Take(u32),
-    Damaged,
-}
-
-// What one who would lay is told of the newest entry.
+// What holds up one who would read a row, or lay in front of it.
 #[derive(Clone, Copy)]
 pub enum Held {
-    Free,
     Wait,
     Damaged,
 }
@@ -93,62 +84,62 @@ fn holds_up(entries: &[u32], size: u32, newest: u32, s: u32) -> bool
 }
 
 // Rule B3: reading at snapshot s the row that begins at `newest`.
-pub fn read_at(entries: &[u32], size: u32, newest: u32, s: u32) -> Read
+pub fn read_at(entries: &[u32], size: u32, newest: u32, s: u32) -> Result<u32, Held>
     ensures { result ≡ at_of size entries.now newest s }
 {
     if holds_up(entries, size, newest, s) {
-        return Read::Wait;
+        return Err(Held::Wait);
     }
     let mut link = newest;
     let mut left = size;
     while 0 < left {
         match look_once(entries, size, link, s) {
             Look::Taken(t) => {
-                return Read::Take(t);
+                return Ok(t);
             }
             Look::Passed(older) => {
                 link = older;
             }
             Look::Broken => {
-                return Read::Damaged;
+                return Err(Held::Damaged);
             }
         }
         left -= 1;
     }
-    Read::Damaged
+    Err(Held::Damaged)
 }
 
 // Rule B4: the newest entry of the row that begins at `newest`.
-pub fn read_newest(entries: &[u32], size: u32, newest: u32) -> Read
+pub fn read_newest(entries: &[u32], size: u32, newest: u32) -> Result<u32, Held>
     ensures { result ≡ newest_of size entries.now newest }
 {
     if newest == 0 {
-        return Read::Damaged;
+        return Err(Held::Damaged);
     }
     if size < newest {
-        return Read::Damaged;
+        return Err(Held::Damaged);
     }
     let e = newest - 1;
     if word(entries, e, PENDING) == 0 {
-        return Read::Take(word(entries, e, TARGET));
+        return Ok(word(entries, e, TARGET));
     }
-    Read::Wait
+    Err(Held::Wait)
 }
 
 // Whether the newest entry is pending, asked before laying. An empty row holds nobody up.
-pub fn newest_held(entries: &[u32], size: u32, newest: u32) -> Held
+pub fn newest_held(entries: &[u32], size: u32, newest: u32) -> Result<(), Held>
     ensures { result ≡ held_of size entries.now newest }
 {
     if newest == 0 {
-        return Held::Free;
+        return Ok(());
     }
     if size < newest {
-        return Held::Damaged;
+        return Err(Held::Damaged);
     }
     if word(entries, newest - 1, PENDING) == 0 {
-        return Held::Free;
+        return Ok(());
     }
-    Held::Wait
+    Err(Held::Wait)
 }
 
 // Entry e, pending, carrying the stamp read, in front of the row that begins at `older`.

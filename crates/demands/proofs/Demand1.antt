@@ -23,7 +23,7 @@ use Rattle.terms.specs.declared.Refusal.{Refusal}
 use Rattle.terms.specs.declared.Answer.{Answer}
 use Rattle.steps.specs.declared.Phase.{Phase}
 use Rattle.steps.specs.declared.Session.{Session}
-use Rattle.steps.specs.Steps.{Done, done, idle, gives, under_way, busy_of, refuses, damaged, waits}
+use Rattle.steps.specs.Steps.{Done, done, idle, gives, under_way, busy_of, refuses}
 use Rattle.register.specs.declared.Started.{Started}
 use Rattle.register.specs.Register.{fits, fresh_of, bad_key, keeps, began, start_of, step_of}
 use Rattle.sixteen.specs.declared.Register.{Register}

@@ -5,11 +5,11 @@
 -- Each premise is the contract's own clause with the values at entry and at exit for variables.
 -- Not here: functions that are public only between crates of the list; each has one of the shapes at the top.
 -- Assumes nothing.
+use Rattle.std.specs.Prelude.{Result}
 use Prim.Native.Nat.{ℕ}
 use mathlib.Core.Path.{◌≡◌, sym, ◌∙◌, ap}
 use mathlib.Core.List.{List}
 use Rattle.bundle.specs.Bundle.{at_of, newest_of, held_of, lay_of, finish_of}
-use Rattle.bundle.specs.declared.Read.{Read}
 use Rattle.bundle.specs.declared.Held.{Held}
 use Rattle.terms.specs.Terms.{small}
 use Rattle.terms.specs.declared.Counters.{Counters}
@@ -82,16 +82,16 @@ only_fresh_register c = one (fresh_register c)
 
 -- ---- bundle, over a table of any size
 module _ (es : List ℕ) where
-  pub only_read_at : (size newest s : ℕ) (r₁ r₂ : Read) → r₁ ≡ at_of size es newest s → r₂ ≡ at_of size es newest s →
+  pub only_read_at : (size newest s : ℕ) (r₁ r₂ : Result ℕ Held) → r₁ ≡ at_of size es newest s → r₂ ≡ at_of size es newest s →
       r₁ ≡ r₂
   only_read_at size newest s = one (at_of size es newest s)
 
-  pub only_read_newest : (size newest : ℕ) (r₁ r₂ : Read) → r₁ ≡ newest_of size es newest →
+  pub only_read_newest : (size newest : ℕ) (r₁ r₂ : Result ℕ Held) → r₁ ≡ newest_of size es newest →
       r₂ ≡ newest_of size es newest →
       r₁ ≡ r₂
   only_read_newest size newest = one (newest_of size es newest)
 
-  pub only_newest_held : (size newest : ℕ) (r₁ r₂ : Held) → r₁ ≡ held_of size es newest → r₂ ≡ held_of size es newest →
+  pub only_newest_held : (size newest : ℕ) (r₁ r₂ : Result (Unit {0}) Held) → r₁ ≡ held_of size es newest → r₂ ≡ held_of size es newest →
       r₁ ≡ r₂
   only_newest_held size newest = one (held_of size es newest)
 

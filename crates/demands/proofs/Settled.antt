@@ -1,6 +1,7 @@
 -- Every step settles: it is refused Damaged and keeps all, waits and keeps all, is full, or goes on; and what it uses
 -- says which (rows 8 and 6 of document 01, and its wait rules).
 -- In order: answers that are no refusal; settling; each phase; any phase. Assumes nothing.
+use Rattle.std.specs.Prelude.{Result, Ok, Err}
 use Prim.Native.Nat.{ℕ, ◌+◌, ◌≤◌, ◌<◌}
 use mathlib.Core.Path.{◌≡◌, refl}
 use mathlib.Core.Logic.{◌⊎◌, inl, inr, ⊎_elim, ◌≢◌}
@@ -10,7 +11,6 @@ use native.Mathlib.Omega.{arith}
 use lib.Dec.{ltb, leb, eqb}
 use borrow.Author.Tests.{ltb-true, ltb-false}
 use Rattle.bundle.specs.Bundle.{at_of, newest_of}
-use Rattle.bundle.specs.declared.Read.{Read}
 use Rattle.bundle.specs.declared.Held.{Held}
 use Rattle.nodes.specs.Nodes.{next_at, lock_at, removed_at, newest_at, key_at, unlocked}
 use Rattle.terms.specs.Terms.{sought_of, high_of, removes_of, Name, name_of, started, working, waiting, key, inserted}
@@ -70,23 +70,23 @@ any R true a b r s = r
 any R false a b r s = s
 
 -- what a bundle answers, told apart
-wait≢free : Held.Wait ≢ Held.Free
-wait≢free e = let w : ◌≡◌ {A = ℕ} 0 1 = cc in omega arith
+abbrev unheld : Result (Unit {0}) Held
+unheld = Ok tt
 
-damaged≢free : Held.Damaged ≢ Held.Free
-damaged≢free e = let w : ◌≡◌ {A = ℕ} 0 1 = cc in omega arith
+wait≢unheld : Err Held.Wait ≢ unheld
+wait≢unheld e = let w : ◌≡◌ {A = ℕ} 0 1 = cc in omega arith
 
-free≢wait : Held.Free ≢ Held.Wait
-free≢wait e = let w : ◌≡◌ {A = ℕ} 0 1 = cc in omega arith
+damaged≢unheld : Err Held.Damaged ≢ unheld
+damaged≢unheld e = let w : ◌≡◌ {A = ℕ} 0 1 = cc in omega arith
 
-damaged≢wait : Held.Damaged ≢ Held.Wait
+unheld≢wait : unheld ≢ Err Held.Wait
+unheld≢wait e = let w : ◌≡◌ {A = ℕ} 0 1 = cc in omega arith
+
+damaged≢wait : {A : Type 0} → ◌≢◌ {A = Result A Held} (Err Held.Damaged) (Err Held.Wait)
 damaged≢wait e = let w : ◌≡◌ {A = ℕ} 0 1 = cc in omega arith
 
-take≢wait : (to : ℕ) → Read.Take to ≢ Read.Wait
+take≢wait : (to : ℕ) → Ok to ≢ Err Held.Wait
 take≢wait to e = let w : ◌≡◌ {A = ℕ} 0 1 = cc in omega arith
-
-broken≢wait : Read.Damaged ≢ Read.Wait
-broken≢wait e = let w : ◌≡◌ {A = ℕ} 0 1 = cc in omega arith
 
 -- a lock word is free or one's own, or another holds it
 split_free : (who word : ℕ) → Splits ((word ≡ 0) ⊎ (word ≡ who + 1)) (HeldByAnother who word) (free who word)
@@ -179,50 +179,50 @@ module _ (z : Size) (ns es : List ℕ) (c : Counters) (op : Op) where
   laid_settles here (tables ns' es') r g = goes ns' es' r g
 
   insert_room_settles : (pred curr : ℕ) →
-      Settled (RoomDamage false z c) (FullAt false z Held.Free c) (Held.Free ≡ Held.Wait) ns es c op
+      Settled (RoomDamage false z c) (FullAt false z unheld c) (unheld ≡ Err Held.Wait) ns es c op
       (Phase.Prepare pred curr) (insert_room z ns es c op pred curr)
   unfolding insert_room
   insert_room_settles pred curr =
-      let R : Done → Type 0 = λ d. Settled (RoomDamage false z c) (FullAt false z Held.Free c)
-      (Held.Free ≡ Held.Wait) ns es c op (Phase.Prepare pred curr) d in
+      let R : Done → Type 0 = λ d. Settled (RoomDamage false z c) (FullAt false z unheld c)
+      (unheld ≡ Err Held.Wait) ns es c op (Phase.Prepare pred curr) d in
       split_cases R _ _ (split_lt z.nodes c.nodes)
-      (λ many. damages (inl many) (λ f. omega arith) free≢wait)
+      (λ many. damages (inl many) (λ f. omega arith) unheld≢wait)
       (λ few. split_cases R _ _ (split_eq c.nodes z.nodes)
-      (λ all. fills pred curr refl (neither (λ many. omega arith) (λ h. h.0 all)) (refl, all) free≢wait)
+      (λ all. fills pred curr refl (neither (λ many. omega arith) (λ h. h.0 all)) (refl, all) unheld≢wait)
       (λ some. split_cases R _ _ (split_lt z.entries (c.entries + 2))
-      (λ many. damages (inr (some, many)) (λ f. some f.1) free≢wait)
+      (λ many. damages (inr (some, many)) (λ f. some f.1) unheld≢wait)
       (λ room. laid_settles (Phase.Prepare pred curr) (insert_laid ns es c op pred curr) _ tt
-      (neither (λ many. omega arith) (λ h. omega arith)) (λ f. some f.1) free≢wait)))
+      (neither (λ many. omega arith) (λ h. omega arith)) (λ f. some f.1) unheld≢wait)))
 
-  insert_prepare_settles : (h : Held) (pred curr : ℕ) →
-      Settled (PrepareDamage false z h c) (FullAt false z h c) (h ≡ Held.Wait) ns es c op (Phase.Prepare pred curr)
+  insert_prepare_settles : (h : Result (Unit {0}) Held) (pred curr : ℕ) →
+      Settled (PrepareDamage false z h c) (FullAt false z h c) (h ≡ Err Held.Wait) ns es c op (Phase.Prepare pred curr)
       (on_held ns es c op (Phase.Prepare pred curr) h (insert_room z ns es c op pred curr))
-  insert_prepare_settles Held.Free pred curr = insert_room_settles pred curr
-  insert_prepare_settles Held.Wait pred curr = halts none (λ f. wait≢free f.0) refl
-  insert_prepare_settles Held.Damaged pred curr = damages tt (λ f. damaged≢free f.0) damaged≢wait
+  insert_prepare_settles (Ok tt) pred curr = insert_room_settles pred curr
+  insert_prepare_settles (Err Held.Wait) pred curr = halts none (λ f. wait≢unheld f.0) refl
+  insert_prepare_settles (Err Held.Damaged) pred curr = damages tt (λ f. damaged≢unheld f.0) damaged≢wait
 
   remove_room_settles : (pred curr : ℕ) →
-      Settled (RoomDamage true z c) ⊥ (Held.Free ≡ Held.Wait) ns es c op (Phase.Prepare pred curr)
+      Settled (RoomDamage true z c) ⊥ (unheld ≡ Err Held.Wait) ns es c op (Phase.Prepare pred curr)
       (remove_room z ns es c op pred curr)
   unfolding remove_room
   remove_room_settles pred curr =
-      let R : Done → Type 0 = λ d. Settled (RoomDamage true z c) ⊥ (Held.Free ≡ Held.Wait) ns es c op
+      let R : Done → Type 0 = λ d. Settled (RoomDamage true z c) ⊥ (unheld ≡ Err Held.Wait) ns es c op
       (Phase.Prepare pred curr) d in
       split_cases R _ _ (split_or (split_lt z.nodes c.nodes) (split_lt z.entries (c.entries + 2)))
-      (λ many. damages many none free≢wait)
+      (λ many. damages many none unheld≢wait)
       (λ room. laid_settles (Phase.Prepare pred curr) (remove_laid ns es c pred curr) _ tt
-      (neither (λ many. omega arith) (λ many. omega arith)) none free≢wait)
+      (neither (λ many. omega arith) (λ many. omega arith)) none unheld≢wait)
 
-  remove_prepare_settles : (h : Held) (pred curr : ℕ) →
-      Settled (PrepareDamage true z h c) ⊥ (h ≡ Held.Wait) ns es c op (Phase.Prepare pred curr)
+  remove_prepare_settles : (h : Result (Unit {0}) Held) (pred curr : ℕ) →
+      Settled (PrepareDamage true z h c) ⊥ (h ≡ Err Held.Wait) ns es c op (Phase.Prepare pred curr)
       (on_held ns es c op (Phase.Prepare pred curr) h (remove_room z ns es c op pred curr))
-  remove_prepare_settles Held.Free pred curr = remove_room_settles pred curr
-  remove_prepare_settles Held.Wait pred curr = halts none none refl
-  remove_prepare_settles Held.Damaged pred curr = damages tt none damaged≢wait
+  remove_prepare_settles (Ok tt) pred curr = remove_room_settles pred curr
+  remove_prepare_settles (Err Held.Wait) pred curr = halts none none refl
+  remove_prepare_settles (Err Held.Damaged) pred curr = damages tt none damaged≢wait
 
   prepare_settles : (b : Bool) (pred curr : ℕ) →
       Settled (PrepareDamage b z (held_for b z ns es pred curr) c) (FullAt b z (held_at z ns es pred) c)
-      (held_for b z ns es pred curr ≡ Held.Wait) ns es c op (Phase.Prepare pred curr)
+      (held_for b z ns es pred curr ≡ Err Held.Wait) ns es c op (Phase.Prepare pred curr)
       (cond b (remove_prepare z ns es c op pred curr) (insert_prepare z ns es c op pred curr))
   prepare_settles true pred curr = remove_prepare_settles (held_either z ns es pred curr) pred curr
   prepare_settles false pred curr = insert_prepare_settles (held_at z ns es pred) pred curr
@@ -288,11 +288,11 @@ module _ (z : Size) (ns es : List ℕ) (c : Counters) (op : Op) where
   read_settles : (at : ℕ) (here : Phase) (next : ℕ → Stepped) → at < z.nodes →
       ((to : ℕ) (W : Type 0) → ¬ W → Settled (FarNode z at ⊎ FarNode z to) ⊥ W ns es c op here
       (done ns es (next to))) →
-      (seen : Read) → Settled (FarNode z at ⊎ Misled z seen) ⊥ ((at < z.nodes) × (seen ≡ Read.Wait)) ns es c op here
+      (seen : Result ℕ Held) → Settled (FarNode z at ⊎ Misled z seen) ⊥ ((at < z.nodes) × (seen ≡ Err Held.Wait)) ns es c op here
       (done ns es (on_read c op here seen next))
-  read_settles at here next near sees Read.Wait = halts (neither (λ far. omega arith) none) none (near, refl)
-  read_settles at here next near sees (Read.Take to) = sees to _ (λ w. take≢wait to w.1)
-  read_settles at here next near sees Read.Damaged = damages (inr tt) none (λ w. broken≢wait w.1)
+  read_settles at here next near sees (Err Held.Wait) = halts (neither (λ far. omega arith) none) none (near, refl)
+  read_settles at here next near sees (Ok to) = sees to _ (λ w. take≢wait to w.1)
+  read_settles at here next near sees (Err Held.Damaged) = damages (inr tt) none (λ w. damaged≢wait w.1)
 
   has_settles : (at to : ℕ) → at < z.nodes → (W : Type 0) → ¬ W →
       Settled (FarNode z at ⊎ FarNode z to) ⊥ W ns es c op (Phase.Newest at) (done ns es (has_sees z ns c op at to))
@@ -309,12 +309,12 @@ module _ (z : Size) (ns es : List ℕ) (c : Counters) (op : Op) where
 
   newest_settles : (at : ℕ) →
       let seen = newest_of z.entries es (newest_at ns at) in
-      Settled (FarNode z at ⊎ Misled z seen) ⊥ ((at < z.nodes) × (seen ≡ Read.Wait)) ns es c op
+      Settled (FarNode z at ⊎ Misled z seen) ⊥ ((at < z.nodes) × (seen ≡ Err Held.Wait)) ns es c op
       (Phase.Newest at) (done ns es (newest_step z ns es c op at))
   unfolding newest_step
   newest_settles at =
       let seen = newest_of z.entries es (newest_at ns at) in
-      let R : Stepped → Type 0 = λ r. Settled (FarNode z at ⊎ Misled z seen) ⊥ ((at < z.nodes) × (seen ≡ Read.Wait))
+      let R : Stepped → Type 0 = λ r. Settled (FarNode z at ⊎ Misled z seen) ⊥ ((at < z.nodes) × (seen ≡ Err Held.Wait))
       ns es c op (Phase.Newest at) (done ns es r) in
       split_cases R _ _ (split_lt at z.nodes)
       (λ near. read_settles at (Phase.Newest at) (has_sees z ns c op at) near (λ to. has_settles at to near) seen)
@@ -340,13 +340,13 @@ module _ (z : Size) (ns es : List ℕ) (c : Counters) (op : Op) where
 
     follow_settles :
         let seen = at_of z.entries es (newest_at ns at) snapshot in
-        Settled (FarNode z at ⊎ Misled z seen) ⊥ ((at < z.nodes) × (seen ≡ Read.Wait)) ns es c op following
+        Settled (FarNode z at ⊎ Misled z seen) ⊥ ((at < z.nodes) × (seen ≡ Err Held.Wait)) ns es c op following
         (done ns es (follow_step z ns es c op at snapshot handed))
     unfolding follow_step
     follow_settles =
         let seen = at_of z.entries es (newest_at ns at) snapshot in
         let R : Stepped → Type 0 = λ r. Settled (FarNode z at ⊎ Misled z seen) ⊥
-        ((at < z.nodes) × (seen ≡ Read.Wait)) ns es c op following (done ns es r) in
+        ((at < z.nodes) × (seen ≡ Err Held.Wait)) ns es c op following (done ns es r) in
         split_cases R _ _ (split_lt at z.nodes)
         (λ near. read_settles at following (range_sees z ns c op at snapshot handed) near
         (λ to. range_settles to near) seen)

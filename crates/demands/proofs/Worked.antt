@@ -1,5 +1,6 @@
 -- Document 01's worked examples hold: P1 to P10 by computing, P11 from the counters.
 -- In order: what is opened to compute; the examples by number; the table; the whole case; the rows. Assumes nothing.
+use Rattle.std.specs.Prelude.{Ok}
 use Prim.Native.Nat.{ℕ, ◌+◌, ◌≤◌, ◌<◌}
 use mathlib.Core.Path.{◌≡◌, refl, ◌∙◌}
 use mathlib.Core.List.{List, [], ◌∷◌}
@@ -9,7 +10,6 @@ use lib.ListN.{length}
 use borrow.Author.Tests.{lt-ltb, le-ltb, eq-eqb, ne_eqb}
 use Rattle.table.specs.Table.{word_of, store_of}
 use Rattle.bundle.specs.Bundle.{look_of, scan_of, holds_up, at_of, newest_of, held_of, lay_of, finish_of}
-use Rattle.bundle.specs.declared.Held.{Held}
 use Rattle.nodes.specs.Nodes.{named_node, clear_node, key_at, next_at, removed_at, unlocked}
 use Rattle.terms.specs.Terms.{out_of_bounds, small, sought_of, started, inserted, refused}
 use Rattle.terms.specs.declared.Counters.{Counters}
@@ -97,7 +97,7 @@ module _ (ns es : List ℕ) (c : Counters) (who k v pred curr : ℕ) (nodes : le
   unfolding step_of fits
   acts s busy = rw (eq-eqb (length ns) 3072 nodes, eq-eqb (length es) 8192 entries, lt-ltb who 16 known, busy)
 
-  module _ (held : held_at small ns es pred ≡ Held.Free) where
+  module _ (held : held_at small ns es pred ≡ Ok tt) where
     room : step_of small ns es c who (preparing k v pred curr) ≡ insert_room small ns es c (Op.Insert k v) pred curr
     unfolding prepare_step
     room = rw (acts (preparing k v pred curr) refl, held)

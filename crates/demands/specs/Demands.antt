@@ -5,9 +5,9 @@
 -- It speaks of the definitions that the contracts of crates register and sixteen equate the code with, over any size,
 -- any tables, counters and records. Rows 9 to 14 are the listing's and the runner's.
 -- Not here: the proof (proofs/Demand1.antt), demands 2 and 3. Assumes nothing.
+use Rattle.std.specs.Prelude.{Result, Ok, Err}
 use Rattle.std.specs.Prelude.{ℕ, ◌+◌, ◌*◌, ◌≤◌, ◌<◌, ◌≡◌, ◌↔◌, ◌⊎◌, ◌≢◌, List, Bool, true, false, length}
 use Rattle.bundle.specs.Bundle.{at_of, newest_of}
-use Rattle.bundle.specs.declared.Read.{Read}
 use Rattle.bundle.specs.declared.Held.{Held}
 use Rattle.nodes.specs.Nodes.{next_at, lock_at, removed_at, newest_at, unlocked}
 use Rattle.terms.specs.Terms.{sought_of, high_of, removes_of, tail_key, refusal_number, Refuses, name_of, started}
@@ -124,15 +124,15 @@ abbrev pub ManyEntries : Size → Counters → Type 0
 ManyEntries z c = z.entries < c.entries + 2
 
 -- a link is read: no entry to take, or the target lies outside the table
-abbrev pub Misled : Size → Read → Type 0
-Misled z Read.Wait = ⊥
-Misled z (Read.Take to) = FarNode z to
-Misled z Read.Damaged = Unit {0}
+abbrev pub Misled : Size → Result ℕ Held → Type 0
+Misled z (Err Held.Wait) = ⊥
+Misled z (Ok to) = FarNode z to
+Misled z (Err Held.Damaged) = Unit {0}
 
 -- 6: no wait due (pred and its newest entry lie in the tables, and it is not pending), no node left
-abbrev pub FullAt : Bool → Size → Held → Counters → Type 0
+abbrev pub FullAt : Bool → Size → Result (Unit {0}) Held → Counters → Type 0
 FullAt true z held c = ⊥
-FullAt false z held c = (held ≡ Held.Free) × (c.nodes ≡ z.nodes)
+FullAt false z held c = (held ≡ Ok tt) × (c.nodes ≡ z.nodes)
 
 abbrev pub Full : Size → List ℕ → List ℕ → Counters → Op → Phase → Type 0
 Full z ns es c op Phase.Idle = ⊥
@@ -160,12 +160,12 @@ abbrev pub RoomDamage : Bool → Size → Counters → Type 0
 RoomDamage true z c = ManyNodes z c ⊎ ManyEntries z c
 RoomDamage false z c = ManyNodes z c ⊎ ((c.nodes ≢ z.nodes) × ManyEntries z c)
 
-abbrev pub PrepareDamage : Bool → Size → Held → Counters → Type 0
-PrepareDamage removes z Held.Free c = RoomDamage removes z c
-PrepareDamage removes z Held.Wait c = ⊥
-PrepareDamage removes z Held.Damaged c = Unit {0}
+abbrev pub PrepareDamage : Bool → Size → Result (Unit {0}) Held → Counters → Type 0
+PrepareDamage removes z (Ok tt) c = RoomDamage removes z c
+PrepareDamage removes z (Err Held.Wait) c = ⊥
+PrepareDamage removes z (Err Held.Damaged) c = Unit {0}
 
-abbrev pub held_for : Bool → Size → List ℕ → List ℕ → ℕ → ℕ → Held
+abbrev pub held_for : Bool → Size → List ℕ → List ℕ → ℕ → ℕ → Result (Unit {0}) Held
 held_for true z ns es pred curr = held_either z ns es pred curr
 held_for false z ns es pred curr = held_at z ns es pred
 
@@ -206,15 +206,15 @@ Wait z ns es who op (Phase.Walk pred curr) = ⊥
 Wait z ns es who op (Phase.Lock pred curr) = LockWaits z ns who pred
 Wait z ns es who op (Phase.LockCurr pred curr) = LockWaits z ns who curr
 Wait z ns es who op (Phase.Check pred curr) = ⊥
-Wait z ns es who op (Phase.Prepare pred curr) = held_for (removes_of op) z ns es pred curr ≡ Held.Wait
+Wait z ns es who op (Phase.Prepare pred curr) = held_for (removes_of op) z ns es pred curr ≡ Err Held.Wait
 Wait z ns es who op (Phase.Number pred node lower upper) = ⊥
 Wait z ns es who op (Phase.Link pred node lower upper number) = ⊥
 Wait z ns es who op (Phase.Finish pred node lower upper number) = ⊥
 Wait z ns es who op (Phase.Newest at) =
-    (at < z.nodes) × (newest_of z.entries es (newest_at ns at) ≡ Read.Wait)
+    (at < z.nodes) × (newest_of z.entries es (newest_at ns at) ≡ Err Held.Wait)
 Wait z ns es who op (Phase.Fix pred) = ⊥
 Wait z ns es who op (Phase.Follow at snapshot handed) =
-    (at < z.nodes) × (at_of z.entries es (newest_at ns at) snapshot ≡ Read.Wait)
+    (at < z.nodes) × (at_of z.entries es (newest_at ns at) snapshot ≡ Err Held.Wait)
 Wait z ns es who op (Phase.Hand at snapshot handed) = ⊥
 
 -- ---- fresh: 7

@@ -6,8 +6,8 @@
 -- P11 speaks of counters: the 510th insert comes to Prepare with 511 nodes used (head, tail and 509 keys), the 511th
 -- with 512. That 510 inserts lead a register to those counters is demand 2's. P12 is the listing's.
 -- Not here: the proof (proofs/Worked.antt). Assumes nothing.
+use Rattle.std.specs.Prelude.{Ok}
 use Rattle.std.specs.Prelude.{ℕ, ◌≤◌, ◌<◌, ◌≡◌, List, [], ◌∷◌, ◌++◌, length, replicate}
-use Rattle.bundle.specs.declared.Held.{Held}
 use Rattle.nodes.specs.Nodes.{key_at, next_at, removed_at, unlocked}
 use Rattle.terms.specs.Terms.{small, Name, name_of, values_of, started, working, waiting, key, inserted, end, refused}
 use Rattle.terms.specs.declared.Counters.{Counters}
@@ -122,12 +122,12 @@ pub record Worked : Type 0 where
   pub p10 : hear (steps 7 6) figure ≡ follows (follows (follows (hands 30 8 (ended 4 1))))
   -- the 510th insert: with 511 nodes used, room for the entries and no wait due, Prepare goes on and 512 are used
   pub p11_fits : (ns es : List ℕ) (c : Counters) (who k v pred curr : ℕ) → length ns ≡ 3072 → length es ≡ 8192 →
-      who < 16 → held_at small ns es pred ≡ Held.Free → c.nodes ≡ 511 → c.entries ≤ 2046 →
+      who < 16 → held_at small ns es pred ≡ Ok tt → c.nodes ≡ 511 → c.entries ≤ 2046 →
       (answer_of (step_of small ns es c who (preparing k v pred curr)) ≡ Answer.Working)
       × ((returned (step_of small ns es c who (preparing k v pred curr))).counters.nodes ≡ 512)
   -- the 511th of an absent key: with 512 used it is full
   pub p11_full : (ns es : List ℕ) (c : Counters) (who k v pred curr : ℕ) → length ns ≡ 3072 → length es ≡ 8192 →
-      who < 16 → held_at small ns es pred ≡ Held.Free → c.nodes ≡ 512 →
+      who < 16 → held_at small ns es pred ≡ Ok tt → c.nodes ≡ 512 →
       step_of small ns es c who (preparing k v pred curr)
       ≡ done (unlocked ns pred) es (ends c (Answer.Refused Refusal.Full))
   -- of a present key: Check answers present, whatever the counters

@@ -1,6 +1,7 @@
 -- The insert of a key above all others, call by call, leaves the tables with that key filed; so do all of them.
 -- In order: the lock forgotten; what Prepare lays; the walk; the seven steps; one insert; all of them.
 -- Not here: listings (Loaded). Assumes nothing.
+use Rattle.std.specs.Prelude.{Ok}
 use Prim.Native.Nat.{ℕ, zero, suc, ◌+◌, ◌-◌, ◌*◌, ◌≤◌, ◌<◌}
 use mathlib.Core.Path.{◌≡◌, refl, ◌∙◌, ap}
 use mathlib.Core.Logic.{◌≢◌}
@@ -187,7 +188,7 @@ module _ (z : Size) (i top k v : ℕ) (ns es : List ℕ) (F : Filed z i top ns e
   locked_else : (j l : ℕ) → j * 6 + l ≢ pred_of i * 6 + 3 → node_at locked j l ≡ node_at ns j l
   locked_else j l apart = put_off ns p 3 1 j l apart
 
-  held_free : held_at z locked es p ≡ Held.Free
+  held_free : held_at z locked es p ≡ Ok tt
   unfolding held_at held_of
   held_free =
       let newest : newest_at locked p ≡ 2 * i + 1 = locked_else p 5 (omega arith) ∙ F.newest in

@@ -1,6 +1,7 @@
 -- The steps of session 0's insert where nothing is in its way: each phase over plain values.
 -- In order: a start and a step of session 0; Walk; Lock; Check; Prepare; Number; Link; Finish.
 -- Not here: which tables are so (Filed). Assumes nothing.
+use Rattle.std.specs.Prelude.{Ok}
 use Prim.Native.Nat.{ℕ, zero, suc, ◌+◌, ◌≤◌, ◌<◌}
 use mathlib.Core.Path.{◌≡◌, refl, ◌∙◌}
 use mathlib.Core.Logic.{◌≢◌}
@@ -125,7 +126,7 @@ module _ (z : Size) (ns es : List ℕ) (c : Counters) (k v p : ℕ) where
     checks kept next tail other =
         rw (lt-ltb _ _ in_table, kept, next, lt-ltb _ _ tail, ne_eqb _ _ other)
 
-    pub prepares : held_at z ns es p ≡ Held.Free → c.nodes < z.nodes → c.entries + 2 ≤ z.entries →
+    pub prepares : held_at z ns es p ≡ Ok tt → c.nodes < z.nodes → c.entries + 2 ≤ z.entries →
         (ns' es' : List ℕ) → insert_laid ns es c op p 1 ≡ tables ns' es' →
         act_step z ns es c 0 op (Phase.Prepare p 1) ≡
         done ns' es'

@@ -11,9 +11,7 @@ use lib.ListN.{length}
 use lib.Dec.{ltb, leb}
 use borrow.Author.Tests.{lt-ltb, le-ltb, le-leb, lt-leb}
 use Rattle.table.specs.Table.{store_of}
-use Rattle.bundle.specs.Bundle.{at_of}
-use Rattle.bundle.specs.declared.Read.{Read}
-use Rattle.nodes.specs.Nodes.{key_at, value_at, next_at, newest_at}
+use Rattle.nodes.specs.Nodes.{key_at, value_at, next_at}
 use Rattle.terms.specs.Terms.{small, names_of, sought_of, high_of}
 use Rattle.terms.specs.declared.Op.{Op}
 use Rattle.terms.specs.declared.Size.{Size}
@@ -145,28 +143,6 @@ module _ (ns : List ℕ) (low high to : ℕ) where
     found_in h i = rw (lt-ltb _ _ in_table, ← key, le-leb _ _ h, le-leb _ _ i)
 
 pub ruleset founds = (found_past, found_low, found_high, found_in)
-
-module _ (ns es : List ℕ) (low high at snapshot : ℕ) where
-  pub follow_past : 512 ≤ at → Found.None ≡ followed_to small ns es low high at snapshot
-  unfolding followed_to
-  follow_past h = rw (le-ltb _ _ h)
-
-  module _ (f : ℕ) (o : Read) (in_table : at < 512) (link : f ≡ newest_at ns at)
-      (read : o ≡ at_of 2048 es f snapshot) where
-    pub follow_waits : o ≡ Read.Wait → Found.None ≡ followed_to small ns es low high at snapshot
-    unfolding followed_to
-    follow_waits h = rw (lt-ltb _ _ in_table, ← link, ← read, h)
-
-    pub follow_broken : o ≡ Read.Damaged → Found.None ≡ followed_to small ns es low high at snapshot
-    unfolding followed_to
-    follow_broken h = rw (lt-ltb _ _ in_table, ← link, ← read, h)
-
-    pub follow_takes : (to : ℕ) (r : Found) → o ≡ Read.Take to → r ≡ in_range small ns low high to
-        → r ≡ followed_to small ns es low high at snapshot
-    unfolding followed_to
-    follow_takes to r h e = rw (lt-ltb _ _ in_table, ← link, ← read, h, e)
-
-pub ruleset follows = (follow_past, follow_waits, follow_broken, follow_takes)
 
 -- ---- handing out
 pub room_for : (ps : List ℕ) (n : ℕ) → leb (n * 2 + 2) (length ps) ≡ has_room ps n

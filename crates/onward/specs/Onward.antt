@@ -3,10 +3,11 @@
 -- gets. `made` steps are made, and `more` may be made here.
 -- That these are the steps, one after the other, is proved (crate several, proofs/Far.antt).
 -- Not here: the steps (crate steps). Assumes nothing.
+use Rattle.std.specs.Prelude.{Result, Ok, Err}
 use Rattle.std.specs.Prelude.{ℕ, zero, suc, ◌+◌, ◌*◌, List, Bool, cond, ◌&&◌, length, ltb, leb}
 use Rattle.table.specs.Table.{store_of}
 use Rattle.bundle.specs.Bundle.{at_of}
-use Rattle.bundle.specs.declared.Read.{Read}
+use Rattle.bundle.specs.declared.Held.{Held}
 use Rattle.nodes.specs.Nodes.{key_at, value_at, next_at, newest_at}
 use Rattle.terms.specs.Terms.{sought_of, high_of, names_of}
 use Rattle.terms.specs.declared.Op.{Op}
@@ -55,10 +56,9 @@ unfoldable pub in_range : Size → List ℕ → ℕ → ℕ → ℕ → Found
 in_range z ns low high to =
     cond (ltb to z.nodes && (leb low (key_at ns to) && leb (key_at ns to) high)) (Found.At to) Found.None
 
-abbrev pub on_taken : Size → List ℕ → ℕ → ℕ → Read → Found
-on_taken z ns low high Read.Wait = Found.None
-on_taken z ns low high (Read.Take to) = in_range z ns low high to
-on_taken z ns low high Read.Damaged = Found.None
+abbrev pub on_taken : Size → List ℕ → ℕ → ℕ → Result ℕ Held → Found
+on_taken z ns low high (Ok to) = in_range z ns low high to
+on_taken z ns low high (Err held) = Found.None
 
 unfoldable pub followed_to : Size → List ℕ → List ℕ → ℕ → ℕ → ℕ → ℕ → Found
 followed_to z ns es low high at snapshot =

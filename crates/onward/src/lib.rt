@@ -25,7 +25,6 @@ ghost use Rattle.onward.specs.Onward.{
   far_of,
 };
 
-use bundle::Read;
 use nodes::{KEY, NEWEST, NEXT, VALUE};
 use steps::{Phase, Session};
 use terms::Op;
@@ -125,21 +124,14 @@ fn in_range(nodes: &[u32], low: u32, high: u32, to: u32) -> Found
     Found::None
 }
 
+#[tactic(auto, unfolding(crate::specs::Onward::followed_to))]
 fn follow_to(nodes: &[u32], entries: &[u32], low: u32, high: u32, at: u32, snapshot: u32) -> Found
     ensures { result ≡ followed_to small nodes.now entries.now low high at snapshot }
 {
     if at < 512 {
         let link = nodes::node(nodes, at, NEWEST);
-        match bundle::read_at(entries, 2048, link, snapshot) {
-            Read::Wait => {
-                return Found::None;
-            }
-            Read::Take(to) => {
-                return in_range(nodes, low, high, to);
-            }
-            Read::Damaged => {
-                return Found::None;
-            }
+        if let Ok(to) = bundle::read_at(entries, 2048, link, snapshot) {
+            return in_range(nodes, low, high, to);
         }
     }
     Found::None

@@ -1,7 +1,8 @@
 -- Each way out of Prepare, over plain values: what the code read and tested, and what the step then is.
 -- In order: is a newest entry pending; laying; room; Prepare. Assumes nothing.
+use Rattle.std.specs.Prelude.{Result, Ok, Err}
 use Prim.Native.Nat.{ℕ, ◌+◌, ◌≤◌, ◌<◌}
-use mathlib.Core.Path.{◌≡◌, sym, ◌∙◌, ap}
+use mathlib.Core.Path.{◌≡◌}
 use mathlib.Core.List.{List}
 use mathlib.Core.Bool.{Bool, true, false}
 use borrow.Author.Tests.{lt-ltb, le-ltb, eq-eqb, ne_eqb}
@@ -16,31 +17,31 @@ use Rattle.terms.specs.declared.Answer.{Answer}
 use Rattle.terms.specs.declared.Refusal.{Refusal}
 use Rattle.steps.specs.declared.Phase.{Phase}
 use Rattle.steps.specs.declared.Stepped.{Stepped}
-use Rattle.steps.specs.Steps.{Done, done, Tables, tables, leaves, works, waits, ends, damaged, counted, held_at}
-use Rattle.steps.specs.Steps.{or_else, held_either, lay_in, insert_laid, remove_laid, insert_room, remove_room}
+use Rattle.steps.specs.Steps.{Done, done, tables, works, waits, ends, damaged, counted, held_at}
+use Rattle.steps.specs.Steps.{held_either, lay_in, insert_laid, remove_laid, insert_room, remove_room}
 use Rattle.steps.specs.Steps.{insert_prepare, remove_prepare, prepare_step}
 
 -- ---- is a newest entry pending
 module _ (z : Size) (ns es : List ℕ) (node : ℕ) where
-  pub held_past : z.nodes ≤ node → Held.Damaged ≡ held_at z ns es node
+  pub held_past : z.nodes ≤ node → Err Held.Damaged ≡ held_at z ns es node
   unfolding held_at
   held_past past = rw (le-ltb _ _ past)
 
-  pub held_is : (h : Held) (f : ℕ) → node < z.nodes → f ≡ newest_at ns node → h ≡ held_of z.entries es f
+  pub held_is : (h : Result (Unit {0}) Held) (f : ℕ) → node < z.nodes → f ≡ newest_at ns node → h ≡ held_of z.entries es f
       → h ≡ held_at z ns es node
   unfolding held_at
   held_is h f in_table link e = rw (lt-ltb _ _ in_table, e, link)
 
 pub ruleset held = (held_past, held_is)
 
-module _ (z : Size) (ns es : List ℕ) (pred curr : ℕ) (a : Held) (first : a ≡ held_at z ns es pred) where
-  pub either_free : (b : Held) → a ≡ Held.Free → b ≡ held_at z ns es curr → b ≡ held_either z ns es pred curr
+module _ (z : Size) (ns es : List ℕ) (pred curr : ℕ) (a : Result (Unit {0}) Held) (first : a ≡ held_at z ns es pred) where
+  pub either_free : (b : Result (Unit {0}) Held) → a ≡ Ok tt → b ≡ held_at z ns es curr → b ≡ held_either z ns es pred curr
   either_free b e h = rw (← first, e, h)
 
-  pub either_waits : a ≡ Held.Wait → Held.Wait ≡ held_either z ns es pred curr
+  pub either_waits : a ≡ Err Held.Wait → Err Held.Wait ≡ held_either z ns es pred curr
   either_waits e = rw (← first, e)
 
-  pub either_broken : a ≡ Held.Damaged → Held.Damaged ≡ held_either z ns es pred curr
+  pub either_broken : a ≡ Err Held.Damaged → Err Held.Damaged ≡ held_either z ns es pred curr
   either_broken e = rw (← first, e)
 
 pub ruleset either = (either_free, either_waits, either_broken)
@@ -114,30 +115,30 @@ pub ruleset insert_room_ways = (insert_many, insert_full, insert_no_entries, ins
 pub ruleset remove_room_ways = (remove_many, remove_no_entries, remove_lays)
 
 -- ---- Prepare
-module _ (z : Size) (ns es : List ℕ) (c : Counters) (op : Op) (pred curr : ℕ) (h : Held) where
+module _ (z : Size) (ns es : List ℕ) (c : Counters) (op : Op) (pred curr : ℕ) (h : Result (Unit {0}) Held) where
   module _ (test : h ≡ held_at z ns es pred) where
-    pub insert_waits : (r : Stepped) → h ≡ Held.Wait → r ≡ waits c op (Phase.Prepare pred curr)
+    pub insert_waits : (r : Stepped) → h ≡ Err Held.Wait → r ≡ waits c op (Phase.Prepare pred curr)
         → done ns es r ≡ insert_prepare z ns es c op pred curr
     insert_waits r e w = rw (← test, e, w)
 
-    pub insert_broken : (r : Stepped) → h ≡ Held.Damaged → r ≡ damaged c op (Phase.Prepare pred curr)
+    pub insert_broken : (r : Stepped) → h ≡ Err Held.Damaged → r ≡ damaged c op (Phase.Prepare pred curr)
         → done ns es r ≡ insert_prepare z ns es c op pred curr
     insert_broken r e w = rw (← test, e, w)
 
-    pub insert_free : (d : Done) → h ≡ Held.Free → d ≡ insert_room z ns es c op pred curr
+    pub insert_free : (d : Done) → h ≡ Ok tt → d ≡ insert_room z ns es c op pred curr
         → d ≡ insert_prepare z ns es c op pred curr
     insert_free d e w = rw (← test, e, w)
 
   module _ (test : h ≡ held_either z ns es pred curr) where
-    pub remove_waits : (r : Stepped) → h ≡ Held.Wait → r ≡ waits c op (Phase.Prepare pred curr)
+    pub remove_waits : (r : Stepped) → h ≡ Err Held.Wait → r ≡ waits c op (Phase.Prepare pred curr)
         → done ns es r ≡ remove_prepare z ns es c op pred curr
     remove_waits r e w = rw (← test, e, w)
 
-    pub remove_broken : (r : Stepped) → h ≡ Held.Damaged → r ≡ damaged c op (Phase.Prepare pred curr)
+    pub remove_broken : (r : Stepped) → h ≡ Err Held.Damaged → r ≡ damaged c op (Phase.Prepare pred curr)
         → done ns es r ≡ remove_prepare z ns es c op pred curr
     remove_broken r e w = rw (← test, e, w)
 
-    pub remove_free : (d : Done) → h ≡ Held.Free → d ≡ remove_room z ns es c op pred curr
+    pub remove_free : (d : Done) → h ≡ Ok tt → d ≡ remove_room z ns es c op pred curr
         → d ≡ remove_prepare z ns es c op pred curr
     remove_free d e w = rw (← test, e, w)
 

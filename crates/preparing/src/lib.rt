@@ -25,11 +25,11 @@ use steps::{Phase, Stepped};
 use terms::{Answer, Counters, Op, Refusal, Size};
 
 // Whether the newest entry of a node's bundle is pending.
-fn held_at(z: Size, nodes: &[u32], entries: &[u32], node: u32) -> Held
+fn held_at(z: Size, nodes: &[u32], entries: &[u32], node: u32) -> Result<(), Held>
     ensures { result ≡ held_at z nodes.now entries.now node }
 {
     if z.nodes <= node {
-        return Held::Damaged;
+        return Err(Held::Damaged);
     }
     let size = z.entries;
     let link = nodes::node(nodes, node, NEWEST);
@@ -37,14 +37,11 @@ fn held_at(z: Size, nodes: &[u32], entries: &[u32], node: u32) -> Held
 }
 
 // Of pred's bundle, and then of curr's.
-fn held_either(z: Size, nodes: &[u32], entries: &[u32], pred: u32, curr: u32) -> Held
+fn held_either(z: Size, nodes: &[u32], entries: &[u32], pred: u32, curr: u32) -> Result<(), Held>
     ensures { result ≡ held_either z nodes.now entries.now pred curr }
 {
-    match held_at(z, nodes, entries, pred) {
-        Held::Free => held_at(z, nodes, entries, curr),
-        Held::Wait => Held::Wait,
-        Held::Damaged => Held::Damaged,
-    }
+    held_at(z, nodes, entries, pred)?;
+    held_at(z, nodes, entries, curr)
 }
 
 // Entry e, pending, to the target, in front of the node's bundle.
@@ -180,9 +177,9 @@ fn prepare_insert(
 {
     let here = Phase::Prepare { pred, curr };
     match held_at(z, nodes, entries, pred) {
-        Held::Free => room_insert(z, nodes, entries, c, op, pred, curr),
-        Held::Wait => steps::wait(c, op, here),
-        Held::Damaged => steps::refuse(c, op, here, Refusal::Damaged),
+        Ok(()) => room_insert(z, nodes, entries, c, op, pred, curr),
+        Err(Held::Wait) => steps::wait(c, op, here),
+        Err(Held::Damaged) => steps::refuse(c, op, here, Refusal::Damaged),
     }
 }
 
@@ -200,9 +197,9 @@ fn prepare_remove(
 {
     let here = Phase::Prepare { pred, curr };
     match held_either(z, nodes, entries, pred, curr) {
-        Held::Free => room_remove(z, nodes, entries, c, op, pred, curr),
-        Held::Wait => steps::wait(c, op, here),
-        Held::Damaged => steps::refuse(c, op, here, Refusal::Damaged),
+        Ok(()) => room_remove(z, nodes, entries, c, op, pred, curr),
+        Err(Held::Wait) => steps::wait(c, op, here),
+        Err(Held::Damaged) => steps::refuse(c, op, here, Refusal::Damaged),
     }
 }
 

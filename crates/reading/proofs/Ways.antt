@@ -1,12 +1,13 @@
 -- Each way out of the steps that write nothing, over plain values: what the code read and tested, and what the step
 -- then is.
 -- In order: Walk; has's Follow; Follow; Hand. Assumes nothing.
+use Rattle.std.specs.Prelude.{Result, Ok, Err}
 use Prim.Native.Nat.{ℕ, ◌+◌, ◌≤◌, ◌<◌}
 use mathlib.Core.Path.{◌≡◌}
 use mathlib.Core.List.{List}
 use borrow.Author.Tests.{lt-ltb, le-ltb, le-leb, lt-leb, eq-eqb, ne_eqb}
 use Rattle.bundle.specs.Bundle.{at_of, newest_of}
-use Rattle.bundle.specs.declared.Read.{Read}
+use Rattle.bundle.specs.declared.Held.{Held}
 use Rattle.nodes.specs.Nodes.{key_at, value_at, next_at, newest_at}
 use Rattle.terms.specs.Terms.{sought_of, high_of}
 use Rattle.terms.specs.declared.Size.{Size}
@@ -63,17 +64,17 @@ module _ (z : Size) (ns es : List ℕ) (c : Counters) (op : Op) (at : ℕ) (r : 
   unfolding newest_step
   newest_past past e = rw (le-ltb _ _ past, e)
 
-  module _ (f : ℕ) (o : Read) (in_table : at < z.nodes) (link : f ≡ newest_at ns at)
+  module _ (f : ℕ) (o : Result ℕ Held) (in_table : at < z.nodes) (link : f ≡ newest_at ns at)
       (read : o ≡ newest_of z.entries es f) where
-    pub newest_waits : o ≡ Read.Wait → r ≡ waits c op (Phase.Newest at) → r ≡ newest_step z ns es c op at
+    pub newest_waits : o ≡ Err Held.Wait → r ≡ waits c op (Phase.Newest at) → r ≡ newest_step z ns es c op at
     unfolding newest_step
     newest_waits h e = rw (lt-ltb _ _ in_table, ← link, ← read, h, e)
 
-    pub newest_leads : (to : ℕ) → o ≡ Read.Take to → r ≡ has_sees z ns c op at to → r ≡ newest_step z ns es c op at
+    pub newest_leads : (to : ℕ) → o ≡ Ok to → r ≡ has_sees z ns c op at to → r ≡ newest_step z ns es c op at
     unfolding newest_step
     newest_leads to h e = rw (lt-ltb _ _ in_table, ← link, ← read, h, e)
 
-    pub newest_broken : o ≡ Read.Damaged → r ≡ damaged c op (Phase.Newest at) → r ≡ newest_step z ns es c op at
+    pub newest_broken : o ≡ Err Held.Damaged → r ≡ damaged c op (Phase.Newest at) → r ≡ newest_step z ns es c op at
     unfolding newest_step
     newest_broken h e = rw (lt-ltb _ _ in_table, ← link, ← read, h, e)
 
@@ -112,19 +113,19 @@ module _ (z : Size) (ns es : List ℕ) (c : Counters) (op : Op) (at snapshot han
   unfolding follow_step
   follow_past past e = rw (le-ltb _ _ past, e)
 
-  module _ (f : ℕ) (o : Read) (in_table : at < z.nodes) (link : f ≡ newest_at ns at)
+  module _ (f : ℕ) (o : Result ℕ Held) (in_table : at < z.nodes) (link : f ≡ newest_at ns at)
       (read : o ≡ at_of z.entries es f snapshot) where
-    pub follow_waits : o ≡ Read.Wait → r ≡ waits c op (Phase.Follow at snapshot handed)
+    pub follow_waits : o ≡ Err Held.Wait → r ≡ waits c op (Phase.Follow at snapshot handed)
         → r ≡ follow_step z ns es c op at snapshot handed
     unfolding follow_step
     follow_waits h e = rw (lt-ltb _ _ in_table, ← link, ← read, h, e)
 
-    pub follow_leads : (to : ℕ) → o ≡ Read.Take to → r ≡ range_sees z ns c op at snapshot handed to
+    pub follow_leads : (to : ℕ) → o ≡ Ok to → r ≡ range_sees z ns c op at snapshot handed to
         → r ≡ follow_step z ns es c op at snapshot handed
     unfolding follow_step
     follow_leads to h e = rw (lt-ltb _ _ in_table, ← link, ← read, h, e)
 
-    pub follow_broken : o ≡ Read.Damaged → r ≡ damaged c op (Phase.Follow at snapshot handed)
+    pub follow_broken : o ≡ Err Held.Damaged → r ≡ damaged c op (Phase.Follow at snapshot handed)
         → r ≡ follow_step z ns es c op at snapshot handed
     unfolding follow_step
     follow_broken h e = rw (lt-ltb _ _ in_table, ← link, ← read, h, e)

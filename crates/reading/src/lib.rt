@@ -5,7 +5,7 @@
 ghost use Rattle.std.specs.Prelude.{◌≡◌};
 ghost use Rattle.steps.specs.Steps.{walk_step, has_sees, newest_step, fix_step, range_sees, follow_step, hand_step};
 
-use bundle::Read;
+use bundle::Held;
 use nodes::{KEY, NEWEST, NEXT, VALUE};
 use steps::{Phase, Stepped};
 use terms::{Answer, Counters, Op, Refusal, Size};
@@ -48,6 +48,7 @@ fn has_sees(z: Size, nodes: &[u32], c: Counters, op: Op, at: u32, to: u32) -> St
     steps::end(c, Answer::Absent)
 }
 
+#[tactic(auto, unfolding(steps::specs::Steps::newest_step))]
 pub fn newest(z: Size, nodes: &[u32], entries: &[u32], c: Counters, op: Op, at: u32) -> Stepped
     ensures { result ≡ newest_step z nodes.now entries.now c op at }
 {
@@ -57,9 +58,9 @@ pub fn newest(z: Size, nodes: &[u32], entries: &[u32], c: Counters, op: Op, at: 
     let size = z.entries;
     let link = nodes::node(nodes, at, NEWEST);
     match bundle::read_newest(entries, size, link) {
-        Read::Wait => steps::wait(c, op, Phase::Newest { at }),
-        Read::Take(to) => has_sees(z, nodes, c, op, at, to),
-        Read::Damaged => steps::refuse(c, op, Phase::Newest { at }, Refusal::Damaged),
+        Err(Held::Wait) => steps::wait(c, op, Phase::Newest { at }),
+        Ok(to) => has_sees(z, nodes, c, op, at, to),
+        Err(Held::Damaged) => steps::refuse(c, op, Phase::Newest { at }, Refusal::Damaged),
     }
 }
 
@@ -119,6 +120,7 @@ fn range_sees(
     steps::end(c, Answer::End(snapshot, handed))
 }
 
+#[tactic(auto, unfolding(steps::specs::Steps::follow_step))]
 pub fn follow(
     z: Size,
     nodes: &[u32],
@@ -142,9 +144,9 @@ pub fn follow(
     let size = z.entries;
     let link = nodes::node(nodes, at, NEWEST);
     match bundle::read_at(entries, size, link, snapshot) {
-        Read::Wait => steps::wait(c, op, here),
-        Read::Take(to) => range_sees(z, nodes, c, op, at, snapshot, handed, to),
-        Read::Damaged => steps::refuse(c, op, here, Refusal::Damaged),
+        Err(Held::Wait) => steps::wait(c, op, here),
+        Ok(to) => range_sees(z, nodes, c, op, at, snapshot, handed, to),
+        Err(Held::Damaged) => steps::refuse(c, op, here, Refusal::Damaged),
     }
 }
 

@@ -2,18 +2,19 @@
 -- a Hand for each key.
 -- In order: what is known where a key comes next; one step of each kind; walking on; handing out; how far a session
 -- gets. Assumes nothing.
-use Prim.Native.Nat.{ℕ, zero, suc, ◌+◌, ◌-◌, ◌*◌, ◌≤◌, ◌<◌}
+use Rattle.std.specs.Prelude.{Result, Ok, Err}
+use Prim.Native.Nat.{ℕ, zero, suc, ◌+◌, ◌-◌, ◌*◌, ◌≤◌}
 use mathlib.Core.Path.{◌≡◌, refl, sym, ◌∙◌, ap, subst}
 use mathlib.Core.List.{List}
 use mathlib.Core.Bool.{Bool, true, false, cond, ◌&&◌}
 use native.Mathlib.Omega.{arith}
 use lib.ListN.{length}
 use lib.Dec.{ltb, leb}
-use borrow.Author.Tests.{ltb-true, leb-true, le-ltb, le-leb}
+use borrow.Author.Tests.{leb-true, le-ltb, le-leb}
 use Rattle.table.specs.Table.{store_of}
 use Rattle.table.proofs.Laws.{store_length}
 use Rattle.bundle.specs.Bundle.{at_of}
-use Rattle.bundle.specs.declared.Read.{Read}
+use Rattle.bundle.specs.declared.Held.{Held}
 use Rattle.nodes.specs.Nodes.{key_at, value_at, next_at, newest_at}
 use Rattle.terms.specs.Terms.{names_of, sought_of, high_of}
 use Rattle.terms.specs.declared.Size.{Size}
@@ -24,15 +25,12 @@ use Rattle.steps.specs.declared.Phase.{Phase}
 use Rattle.steps.specs.declared.Session.{Session}
 use Rattle.steps.specs.Steps.{done, works, gives, walk_step, range_sees, follow_step, hand_step}
 use Rattle.register.specs.Register.{fits, step_of}
-use Rattle.onward.specs.declared.Course.{Course}
 use Rattle.onward.specs.declared.Found.{Found}
 use Rattle.onward.specs.declared.Walked.{Walked}
-use Rattle.onward.specs.declared.Handing.{Handing}
-use Rattle.onward.specs.declared.Far.{Far}
 use Rattle.onward.specs.Onward.{course_of, below_at, walked_to, walk_on, in_range, on_taken, followed_to, has_room}
 use Rattle.onward.specs.Onward.{put_pair}
 use Rattle.onward.specs.Onward.{Handed, handed_to, handed_at, next_key, on_found, hand_on, Reach, reached, stays}
-use Rattle.onward.specs.Onward.{walk_far, hand_far, on_course, far_of}
+use Rattle.onward.specs.Onward.{hand_far, on_course, far_of}
 use Rattle.several.specs.Several.{Gone, turn_of, go_on}
 
 -- ---- what is known where a key comes next
@@ -76,16 +74,15 @@ module _ (z : Size) (ns es : List ℕ) (low high to : ℕ) where
         }),
       )
 
-  taken_facts : (o : Read) → Found.At to ≡ on_taken z ns low high o → (o ≡ Read.Take to) × InRange z ns low high to
-  taken_facts Read.Wait e = absurd (subst IsAt e tt)
-  taken_facts (Read.Take t) e = let d = range_facts t e in (ap Read.Take d.0, d.1)
-  taken_facts Read.Damaged e = absurd (subst IsAt e tt)
+  taken_facts : (o : Result ℕ Held) → Found.At to ≡ on_taken z ns low high o → (o ≡ Ok to) × InRange z ns low high to
+  taken_facts (Ok t) e = let d = range_facts t e in (ap Ok d.0, d.1)
+  taken_facts (Err held) e = absurd (subst IsAt e tt)
 
 record Ready (z : Size) (ns es ps : List ℕ) (low high snapshot at handed count to : ℕ) : Type 0 where
   few : ltb handed z.keys ≡ true
   room : has_room ps (count + 1) ≡ true
   from : ltb at z.nodes ≡ true
-  link : at_of z.entries es (newest_at ns at) snapshot ≡ Read.Take to
+  link : at_of z.entries es (newest_at ns at) snapshot ≡ Ok to
   range : InRange z ns low high to
 
 ready : (z : Size) (ns es ps : List ℕ) (low high snapshot at handed count to : ℕ)

@@ -11,7 +11,7 @@ use Rattle.terms.specs.declared.Counters.{Counters}
 use Rattle.steps.specs.declared.Session.{Session}
 use Rattle.onward.specs.declared.Far.{Far}
 use Rattle.onward.specs.Onward.{Reach, reached, far_of}
-use Rattle.onward.proofs.Bounds.{Within, far_within}
+use Rattle.onward.proofs.Bounds.{far_within}
 use Rattle.several.specs.declared.Turn.{Turn}
 use Rattle.several.specs.declared.Went.{Went}
 use Rattle.several.specs.Several.{Turned, turned, turn_of, Gone, gone, stops, step_then, stride_of}

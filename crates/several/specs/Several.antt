@@ -12,7 +12,6 @@ use Rattle.steps.specs.declared.Session.{Session}
 use Rattle.steps.specs.declared.Stepped.{Stepped}
 use Rattle.steps.specs.Steps.{Done, done}
 use Rattle.register.specs.Register.{step_of}
-use Rattle.onward.specs.declared.Far.{Far}
 use Rattle.onward.specs.Onward.{has_room, put_pair, Reach, reached, far_of}
 use Rattle.several.specs.declared.Said.{Said}
 use Rattle.several.specs.declared.Turn.{Turn}

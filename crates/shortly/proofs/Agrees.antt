@@ -1,15 +1,16 @@
 -- What a short way tells is the outcome of the step of the record that the words stand for.
 -- In order: the phase that the words say; Walk; Follow; Hand; the two calls.
 -- Not here: that storing the words that change stores the record (crate stepping). Assumes nothing.
+use Rattle.std.specs.Prelude.{Result, Ok, Err}
 use Prim.Native.Nat.{ℕ, ◌+◌, ◌≤◌, ◌<◌}
 use mathlib.Core.Path.{◌≡◌, refl, sym, ap, ◌∙◌}
 use mathlib.Core.List.{List}
-use mathlib.Core.Bool.{Bool, true, false, cond}
+use mathlib.Core.Bool.{Bool, true, cond}
 use native.Mathlib.Omega.{arith}
 use borrow.Author.Tests.{le-leb, ltb-true, leb-true, eqb-true}
 use Rattle.order.proofs.Tests.{cond_cases, ltb_cases, eqb_cases}
 use Rattle.bundle.specs.Bundle.{at_of}
-use Rattle.bundle.specs.declared.Read.{Read}
+use Rattle.bundle.specs.declared.Held.{Held}
 use Rattle.nodes.specs.Nodes.{key_at, value_at, next_at, newest_at}
 use Rattle.terms.specs.Terms.{sought_of, high_of, names_of}
 use Rattle.terms.specs.declared.Size.{Size}
@@ -120,7 +121,7 @@ module _ (z : Size) (ns es : List ℕ) (who : ℕ) (w : Words) where
     range_named = is_range _ _ _ four
 
     module _ (to : ℕ) (follows : w.phase.phase ≡ 11) (in_table : w.phase.a < z.nodes)
-        (link : Read.Take to ≡ at_of z.entries es (newest_at ns w.phase.a) w.phase.b) (known : to < z.nodes)
+        (link : Ok to ≡ at_of z.entries es (newest_at ns w.phase.a) w.phase.b) (known : to < z.nodes)
       where
         leads_agrees : (then : Phase) (p : PhaseWords) → phase_words then ≡ p
             → ((c : Counters)
@@ -189,7 +190,7 @@ module _ (z : Size) (ns es : List ℕ) (who : ℕ) (w : Words) where
 
   module _ (four : w.op.kind ≡ 4) (unused : range_zeros w ≡ true) where
     module _ (follows : w.phase.phase ≡ 11) (in_table : w.phase.a < z.nodes) where
-      sees_told : (to : ℕ) → at_of z.entries es (newest_at ns w.phase.a) w.phase.b ≡ Read.Take to
+      sees_told : (to : ℕ) → at_of z.entries es (newest_at ns w.phase.a) w.phase.b ≡ Ok to
           → Ranges (sees_shortly z ns w.op.first w.op.second to)
       unfolding sees_shortly
       sees_told to link =
@@ -200,11 +201,10 @@ module _ (z : Size) (ns es : List ℕ) (who : ℕ) (w : Words) where
           key_agrees four unused to follows in_table (sym link) (ltb-true _ _ known) reached
           (leb-true _ _ within))))
 
-      read_told : (o : Read) → at_of z.entries es (newest_at ns w.phase.a) w.phase.b ≡ o
+      read_told : (o : Result ℕ Held) → at_of z.entries es (newest_at ns w.phase.a) w.phase.b ≡ o
           → Ranges (on_taken o (sees_shortly z ns w.op.first w.op.second))
-      read_told Read.Wait link = tt
-      read_told (Read.Take to) link = sees_told to link
-      read_told Read.Damaged link = tt
+      read_told (Ok to) link = sees_told to link
+      read_told (Err held) link = tt
 
     follow_told : w.phase.phase ≡ 11
         → Ranges (follow_shortly z ns es w.op.first w.op.second w.phase.a w.phase.b)

@@ -8,9 +8,7 @@ use lib.Dec.{eqb, leb}
 use native.Mathlib.Decide.{dec_le}
 use native.Mathlib.Omega.{arith}
 use borrow.Author.Tests.{lt-ltb, le-ltb, le-leb, lt-leb, eq-eqb, ne_eqb}
-use Rattle.bundle.specs.Bundle.{at_of}
-use Rattle.bundle.specs.declared.Read.{Read}
-use Rattle.nodes.specs.Nodes.{key_at, value_at, next_at, newest_at}
+use Rattle.nodes.specs.Nodes.{key_at, value_at, next_at}
 use Rattle.terms.specs.declared.Size.{Size}
 use Rattle.encoding.specs.declared.OpWords.{OpWords}
 use Rattle.encoding.specs.declared.PhaseWords.{PhaseWords}
@@ -121,28 +119,6 @@ module _ (z : Size) (ns : List ℕ) (low high to : ℕ) where
     sees_end reached above = rw (lt-ltb _ _ in_table, ← key, le-ltb k low reached, lt-leb k high above)
 
 pub ruleset seeing = (sees_past, sees_on, sees_key, sees_end)
-
-module _ (z : Size) (ns es : List ℕ) (low high at snapshot : ℕ) where
-  pub follows_past : z.nodes ≤ at → Ranged.Long ≡ follow_shortly z ns es low high at snapshot
-  unfolding follow_shortly
-  follows_past past = rw (le-ltb _ _ past)
-
-  module _ (f : ℕ) (o : Read) (in_table : at < z.nodes) (link : f ≡ newest_at ns at)
-      (read : o ≡ at_of z.entries es f snapshot) where
-    pub follows_wait : o ≡ Read.Wait → Ranged.Long ≡ follow_shortly z ns es low high at snapshot
-    unfolding follow_shortly
-    follows_wait h = rw (lt-ltb _ _ in_table, ← link, ← read, h)
-
-    pub follows_broken : o ≡ Read.Damaged → Ranged.Long ≡ follow_shortly z ns es low high at snapshot
-    unfolding follow_shortly
-    follows_broken h = rw (lt-ltb _ _ in_table, ← link, ← read, h)
-
-    pub follows : (x : Ranged) (to : ℕ) → o ≡ Read.Take to → x ≡ sees_shortly z ns low high to
-        → x ≡ follow_shortly z ns es low high at snapshot
-    unfolding follow_shortly
-    follows x to h e = rw (lt-ltb _ _ in_table, ← link, ← read, h, e)
-
-pub ruleset following = (follows_past, follows_wait, follows_broken, follows)
 
 -- ---- Hand
 module _ (z : Size) (ns : List ℕ) (at handed : ℕ) where

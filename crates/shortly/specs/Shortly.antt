@@ -2,9 +2,10 @@
 -- In order: Walk that moves on; Follow that goes on or meets a key; Hand; a range's two. `z` is the size, `ns` and
 -- `es` are the tables, `w` a record's words. A way tells what changes (crate source); Long where a test fails.
 -- Not here: that this is the step (proofs/Agrees.antt). Assumes nothing.
+use Rattle.std.specs.Prelude.{Result, Ok, Err}
 use Rattle.std.specs.Prelude.{ℕ, ◌+◌, List, Bool, false, cond, ltb, leb, eqb}
 use Rattle.bundle.specs.Bundle.{at_of}
-use Rattle.bundle.specs.declared.Read.{Read}
+use Rattle.bundle.specs.declared.Held.{Held}
 use Rattle.nodes.specs.Nodes.{key_at, value_at, next_at, newest_at}
 use Rattle.terms.specs.declared.Size.{Size}
 use Rattle.encoding.specs.declared.OpWords.{OpWords}
@@ -42,10 +43,9 @@ sees_shortly z ns low high to =
     (cond (leb (key_at ns to) high) (Ranged.Leads 12 to) Ranged.Long))
     Ranged.Long
 
-abbrev pub on_taken : Read → (ℕ → Ranged) → Ranged
-on_taken Read.Wait next = Ranged.Long
-on_taken (Read.Take to) next = next to
-on_taken Read.Damaged next = Ranged.Long
+abbrev pub on_taken : Result ℕ Held → (ℕ → Ranged) → Ranged
+on_taken (Ok to) next = next to
+on_taken (Err held) next = Ranged.Long
 
 unfoldable pub follow_shortly : Size → List ℕ → List ℕ → ℕ → ℕ → ℕ → ℕ → Ranged
 follow_shortly z ns es low high at snapshot =

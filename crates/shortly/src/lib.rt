@@ -19,7 +19,6 @@ ghost use Rattle.shortly.specs.Shortly.{
   range_shortly,
 };
 
-use bundle::Read;
 use encoding::{OpWords, PhaseWords, Words};
 use nodes::{KEY, NEWEST, NEXT, VALUE};
 
@@ -99,6 +98,7 @@ fn sees(nodes: &[u32], low: u32, high: u32, to: u32) -> Ranged
     Ranged::Long
 }
 
+#[tactic(auto, unfolding(crate::specs::Shortly::follow_shortly))]
 fn follow(nodes: &[u32], entries: &[u32], low: u32, high: u32, at: u32, snapshot: u32) -> Ranged
     ensures { result ≡ follow_shortly small nodes.now entries.now low high at snapshot }
 {
@@ -107,9 +107,8 @@ fn follow(nodes: &[u32], entries: &[u32], low: u32, high: u32, at: u32, snapshot
     }
     let link = nodes::node(nodes, at, NEWEST);
     match bundle::read_at(entries, 2048, link, snapshot) {
-        Read::Wait => Ranged::Long,
-        Read::Take(to) => sees(nodes, low, high, to),
-        Read::Damaged => Ranged::Long,
+        Ok(to) => sees(nodes, low, high, to),
+        Err(_) => Ranged::Long,
     }
 }
 

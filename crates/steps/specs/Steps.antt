@@ -4,9 +4,9 @@
 -- Follow; Hand; the step by its phase. `z` is the size, `ns` and `es` are the node and the entries table, `c` the
 -- counters. A node or an entry number is tested where a step first uses it, before any write (document 01, Damaged).
 -- Not here: the checks before a step, starting, a fresh register (crate register). Assumes nothing.
+use Rattle.std.specs.Prelude.{Result, Ok, Err}
 use Rattle.std.specs.Prelude.{ℕ, ◌+◌, List, Bool, true, false, cond, ◌&&◌, ◌||◌, ltb, leb, eqb}
 use Rattle.bundle.specs.Bundle.{at_of, newest_of, held_of, lay_of, finish_of}
-use Rattle.bundle.specs.declared.Read.{Read}
 use Rattle.bundle.specs.declared.Held.{Held}
 use Rattle.nodes.specs.Nodes.{put_node, key_at, value_at, next_at, lock_at, removed_at, newest_at, unlocked}
 use Rattle.nodes.specs.Nodes.{unlocked_both}
@@ -190,21 +190,21 @@ remove_room z ns es c op pred curr =
     (works (counted c c.nodes) op (Phase.Number pred curr c.entries (c.entries + 1))))
 
 -- is the newest entry of a node's bundle pending; of pred's, and then of curr's
-unfoldable pub held_at : Size → List ℕ → List ℕ → ℕ → Held
-held_at z ns es node = cond (ltb node z.nodes) (held_of z.entries es (newest_at ns node)) Held.Damaged
+unfoldable pub held_at : Size → List ℕ → List ℕ → ℕ → Result (Unit {0}) Held
+held_at z ns es node = cond (ltb node z.nodes) (held_of z.entries es (newest_at ns node)) (Err Held.Damaged)
 
-abbrev pub or_else : Held → Held → Held
-or_else Held.Free next = next
-or_else Held.Wait next = Held.Wait
-or_else Held.Damaged next = Held.Damaged
+abbrev pub or_else : Result (Unit {0}) Held → Result (Unit {0}) Held → Result (Unit {0}) Held
+or_else (Ok tt) next = next
+or_else (Err Held.Wait) next = Err Held.Wait
+or_else (Err Held.Damaged) next = Err Held.Damaged
 
-abbrev pub held_either : Size → List ℕ → List ℕ → ℕ → ℕ → Held
+abbrev pub held_either : Size → List ℕ → List ℕ → ℕ → ℕ → Result (Unit {0}) Held
 held_either z ns es pred curr = or_else (held_at z ns es pred) (held_at z ns es curr)
 
-abbrev pub on_held : List ℕ → List ℕ → Counters → Op → Phase → Held → Done → Done
-on_held ns es c op here Held.Free next = next
-on_held ns es c op here Held.Wait next = done ns es (waits c op here)
-on_held ns es c op here Held.Damaged next = done ns es (damaged c op here)
+abbrev pub on_held : List ℕ → List ℕ → Counters → Op → Phase → Result (Unit {0}) Held → Done → Done
+on_held ns es c op here (Ok tt) next = next
+on_held ns es c op here (Err Held.Wait) next = done ns es (waits c op here)
+on_held ns es c op here (Err Held.Damaged) next = done ns es (damaged c op here)
 
 abbrev pub insert_prepare : Size → List ℕ → List ℕ → Counters → Op → ℕ → ℕ → Done
 insert_prepare z ns es c op pred curr =
@@ -274,10 +274,10 @@ has_sees z ns c op at to =
     (damaged c op (Phase.Newest at))
 
 -- what comes where a link is read
-abbrev pub on_read : Counters → Op → Phase → Read → (ℕ → Stepped) → Stepped
-on_read c op here Read.Wait next = waits c op here
-on_read c op here (Read.Take to) next = next to
-on_read c op here Read.Damaged next = damaged c op here
+abbrev pub on_read : Counters → Op → Phase → Result ℕ Held → (ℕ → Stepped) → Stepped
+on_read c op here (Err Held.Wait) next = waits c op here
+on_read c op here (Ok to) next = next to
+on_read c op here (Err Held.Damaged) next = damaged c op here
 
 unfoldable pub newest_step : Size → List ℕ → List ℕ → Counters → Op → ℕ → Stepped
 newest_step z ns es c op at =

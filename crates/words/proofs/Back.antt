@@ -2,6 +2,7 @@
 -- a call agreed before it. True of any words.
 -- In order: stores; what a step keeps, phase by phase; any call; `agree_back`.
 -- Not here: what the words show. Assumes nothing.
+use Rattle.std.specs.Prelude.{Result, Ok, Err}
 use Prim.Native.Nat.{ℕ, ◌+◌, ◌≤◌, ◌<◌}
 use mathlib.Core.Path.{◌≡◌, refl, sym, ◌∙◌, ap}
 use mathlib.Core.Logic.{◌⊎◌, inl, inr}
@@ -12,7 +13,6 @@ use lib.Dec.{ltb, leb, eqb}
 use Rattle.table.proofs.Laws.{word_else}
 use Rattle.order.proofs.Tests.{cond_cases}
 use Rattle.bundle.specs.Bundle.{at_of, newest_of}
-use Rattle.bundle.specs.declared.Read.{Read}
 use Rattle.bundle.specs.declared.Held.{Held}
 use Rattle.nodes.specs.Nodes.{node_at, put_node, key_at, next_at, lock_at, removed_at, newest_at, unlocked}
 use Rattle.nodes.specs.Nodes.{unlocked_both}
@@ -191,11 +191,11 @@ module _ (z : Size) (ns : List ℕ) (c : Counters) where
       either M (removes_of op) _ _ (remove_link_keeps op p y lo hi n) (insert_link_keeps op p y lo hi n)
 
   -- the readers
-  read_keeps : (op : Op) (here : Phase) (rd : Read) (next : ℕ → Stepped) → ((to : ℕ) → Up c (next to))
+  read_keeps : (op : Op) (here : Phase) (rd : Result ℕ Held) (next : ℕ → Stepped) → ((to : ℕ) → Up c (next to))
       → Up c (on_read c op here rd next)
-  read_keeps op here Read.Wait next on = same_up _ refl
-  read_keeps op here (Read.Take to) next on = on to
-  read_keeps op here Read.Damaged next on = same_up _ refl
+  read_keeps op here (Err Held.Wait) next on = same_up _ refl
+  read_keeps op here (Ok to) next on = on to
+  read_keeps op here (Err Held.Damaged) next on = same_up _ refl
 
   has_keeps : (op : Op) (x to : ℕ) → Up c (has_sees z ns c op x to)
   unfolding has_sees
@@ -271,10 +271,10 @@ module _ (z : Size) (ns es : List ℕ) (c : Counters) where
       either D (ltb z.nodes c.nodes || ltb z.entries (c.entries + 2)) _ _ (as_was _ refl)
       (keeps_both _ _ _ (omega arith) (remove_laid_lem p q))
 
-  held_keeps : (op : Op) (here : Phase) (held : Held) (next : Done) → D next → D (on_held ns es c op here held next)
-  held_keeps op here Held.Free next k = k
-  held_keeps op here Held.Wait next k = as_was _ refl
-  held_keeps op here Held.Damaged next k = as_was _ refl
+  held_keeps : (op : Op) (here : Phase) (held : Result (Unit {0}) Held) (next : Done) → D next → D (on_held ns es c op here held next)
+  held_keeps op here (Ok tt) next k = k
+  held_keeps op here (Err Held.Wait) next k = as_was _ refl
+  held_keeps op here (Err Held.Damaged) next k = as_was _ refl
 
   prepare_keeps : (op : Op) (p q : ℕ) → D (prepare_step z ns es c op p q)
   unfolding prepare_step

@@ -1,6 +1,7 @@
 -- Prepare in words: it waits, answers full, or lays two entries, as in the drawing.
 -- In order: is a newest entry pending; the words after a step agree; an insert's Prepare; a remove's; both.
 -- Not here: laying itself (Lay), the nodes whose remove is laid (Cut). Assumes nothing.
+use Rattle.std.specs.Prelude.{Ok, Err}
 use Prim.Native.Nat.{ℕ, ◌+◌, ◌*◌, ◌≤◌, ◌<◌}
 use mathlib.Core.Path.{◌≡◌, refl, sym, ◌∙◌, ap, subst}
 use mathlib.Core.Logic.{◌⊎◌, inl, inr, ⊎_elim, ◌≢◌}
@@ -67,10 +68,10 @@ module _ {key val : ℕ → ℕ} {σ : State} {h : Past} {m : Drawing} {t : ℕ}
       (T.shown.rows.shows x below)))
 
   free_at : (x : ℕ) (r : Row) → x < used_of σ → m.bundle x ≡ final r
-      → Held.Free ≡ held_at small σ.nodes σ.entries x
+      → Ok tt ≡ held_at small σ.nodes σ.entries x
   free_at x r below is_final = sym (ap (λ b. as_held (shown b)) is_final) ∙ held_word x below
 
-  waits_at : (x : ℕ) → x < used_of σ → Pending m x → Held.Wait ≡ held_at small σ.nodes σ.entries x
+  waits_at : (x : ℕ) → x < used_of σ → Pending m x → Err Held.Wait ≡ held_at small σ.nodes σ.entries x
   waits_at x below pends =
       let (w, c, g, r, is) = newest_wait (m.bundle x) pends in
       sym (ap (λ b. as_held (shown b)) is) ∙ held_word x below
@@ -101,7 +102,7 @@ module _ {key val : ℕ → ℕ} {σ : State} {h : Past} {m : Drawing} {t : ℕ}
   insert_waits : Pending m p → Advanced key val σ h m t
   insert_waits pends = waits_here T e tt _ (its_record T e) (rw e (inl pends))
       (sym (Ways.prepare_insert small σ.nodes σ.entries σ.register.counters _ p q false refl _ refl
-      (Ways.insert_waits small σ.nodes σ.entries σ.register.counters _ p q Held.Wait
+      (Ways.insert_waits small σ.nodes σ.entries σ.register.counters _ p q (Err Held.Wait)
       (waits_at T p p<used pends) _ refl refl)))
 
   -- the step with room looked at
@@ -110,7 +111,7 @@ module _ {key val : ℕ → ℕ} {σ : State} {h : Past} {m : Drawing} {t : ℕ}
         → d ≡ insert_room small σ.nodes σ.entries σ.register.counters (op_word (upd (insert k v))) p q
         → act_of σ t (running (upd (insert k v)) (Phase.Phase.Prepare p q)) ≡ d
     looks d is = sym (Ways.prepare_insert small σ.nodes σ.entries σ.register.counters _ p q false refl
-        d refl (Ways.insert_free small σ.nodes σ.entries σ.register.counters _ p q Held.Free
+        d refl (Ways.insert_free small σ.nodes σ.entries σ.register.counters _ p q (Ok tt)
         (free_at T p r p<used final_p) d refl is))
 
     -- no node left
@@ -206,11 +207,11 @@ module _ {key val : ℕ → ℕ} {σ : State} {h : Past} {m : Drawing} {t : ℕ}
   q_below = its_node T e q (inr refl)
 
   -- pred's newest is pending, or curr's
-  remove_waits : Held.Wait ≡ held_either small σ.nodes σ.entries p q
+  remove_waits : Err Held.Wait ≡ held_either small σ.nodes σ.entries p q
       → Pending m p ⊎ ((k₂ : ℕ) × (remove k ≡ remove k₂) × Pending m q) → Advanced key val σ h m t
   remove_waits test pends = waits_here T e tt _ (its_record T e) (rw e pends)
       (sym (Ways.prepare_remove small σ.nodes σ.entries σ.register.counters _ p q true refl _ refl
-      (Ways.remove_waits small σ.nodes σ.entries σ.register.counters _ p q Held.Wait test _ refl refl)))
+      (Ways.remove_waits small σ.nodes σ.entries σ.register.counters _ p q (Err Held.Wait) test _ refl refl)))
 
   module _ (r r₂ : Row) (final_p : m.bundle p ≡ final r) (final_q : m.bundle q ≡ final r₂) where
     remove_acts : Acts σ t (laid_nodes σ.nodes p q σ.register.counters.entries)
@@ -219,9 +220,9 @@ module _ {key val : ℕ → ℕ} {σ : State} {h : Past} {m : Drawing} {t : ℕ}
         (Phase.Phase.Number p q σ.register.counters.entries (σ.register.counters.entries + 1)))
     remove_acts = acts_by σ t _ _ _ _ (its_record T e)
         (sym (Ways.prepare_remove small σ.nodes σ.entries σ.register.counters _ p q true refl _ refl
-        (Ways.remove_free small σ.nodes σ.entries σ.register.counters _ p q Held.Free
-        (Ways.either_free small σ.nodes σ.entries p q Held.Free
-        (free_at T p r p_below final_p) Held.Free refl (free_at T q r₂ q_below final_q)) _ refl
+        (Ways.remove_free small σ.nodes σ.entries σ.register.counters _ p q (Ok tt)
+        (Ways.either_free small σ.nodes σ.entries p q (Ok tt)
+        (free_at T p r p_below final_p) (Ok tt) refl (free_at T q r₂ q_below final_q)) _ refl
         (Ways.remove_lays small σ.nodes σ.entries σ.register.counters _ p q _ _ _ T.shown.most
         (omega (arith, entries_most key val σ h m T.shown))
         (remove_tables σ.nodes σ.entries σ.register.counters p q) refl))))
@@ -257,11 +258,11 @@ module _ {key val : ℕ → ℕ} {σ : State} {h : Past} {m : Drawing} {t : ℕ}
   remove_prepares = ⊎_elim
       (λ b. ⊎_elim (λ a. remove_lays b.0 a.0 b.1 a.1)
       (λ pends. remove_waits
-      (Ways.either_free small σ.nodes σ.entries p q Held.Free
-      (free_at T p b.0 p_below b.1) Held.Wait refl (waits_at T q q_below pends))
+      (Ways.either_free small σ.nodes σ.entries p q (Ok tt)
+      (free_at T p b.0 p_below b.1) (Err Held.Wait) refl (waits_at T q q_below pends))
       (inr (k, refl, pends))) (bundle_cases (m.bundle q)))
       (λ pends. remove_waits
-      (Ways.either_waits small σ.nodes σ.entries p q Held.Wait (waits_at T p p_below pends) refl)
+      (Ways.either_waits small σ.nodes σ.entries p q (Err Held.Wait) (waits_at T p p_below pends) refl)
       (inl pends)) (bundle_cases (m.bundle p))
 
 -- ---- PREPARE

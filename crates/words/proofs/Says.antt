@@ -1,6 +1,7 @@
 -- What the answer to a call says, told of the drawing that the words show.
 -- In order: full, in the drawing and in words; what each answer says; that a call's answer says so.
 -- Not here: the history in demand 2's words (Demand2). Assumes nothing.
+use Rattle.std.specs.Prelude.{Result, Ok, Err}
 use Prim.Native.Nat.{ℕ, ◌+◌, ◌<◌}
 use mathlib.Core.Path.{◌≡◌, refl, sym, ◌∙◌, ap, subst}
 use mathlib.Core.Logic.{◌⊎◌, inl, inr}
@@ -124,11 +125,11 @@ module _ (z : Size) (ns es : List ℕ) (c : Counters) (op : Op.Op) (p q : ℕ) w
       (λ _. cond_cases OnlyFull (ltb z.entries (c.entries + 2)) _ _ (λ _. never _ clash_damaged)
       (λ _. never _ (λ e. clash_working (sym (laid_answer (insert_laid ns es c op p q) _) ∙ e)))))
 
-  held_full : (here : Phase.Phase) (held : Held) (next : Done) → OnlyFull next
+  held_full : (here : Phase.Phase) (held : Result (Unit {0}) Held) (next : Done) → OnlyFull next
       → OnlyFull (on_held ns es c op here held next)
-  held_full here Held.Free next o = o
-  held_full here Held.Wait next o = never _ clash_waiting
-  held_full here Held.Damaged next o = never _ clash_damaged
+  held_full here (Ok tt) next o = o
+  held_full here (Err Held.Wait) next o = never _ clash_waiting
+  held_full here (Err Held.Damaged) next o = never _ clash_damaged
 
 prepare_words : (z : Size) (ns es : List ℕ) (c : Counters) (k v p q : ℕ)
     → OnlyFull z ns es c (Op.Op.Insert k v) p q (prepare_step z ns es c (Op.Op.Insert k v) p q)
