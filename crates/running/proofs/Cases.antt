@@ -6,6 +6,7 @@ use Prim.Native.Nat.{ℕ, ◌≤◌}
 use mathlib.Core.Path.{◌≡◌, refl, ◌∙◌, ap}
 use mathlib.Core.List.{List}
 use native.Mathlib.Nat.{zero-add}
+use Rattle.std.specs.Prelude.{Ok}
 use lib.ListN.{length, replicate}
 use lib.Seq.{sets}
 use borrow.Author.Tests.{le-ltb, eq-eqb}
@@ -23,7 +24,6 @@ use Rattle.register.specs.Register.{start_of, step_of}
 use Rattle.sixteen.specs.Sixteen.{fresh_register}
 use Rattle.lines.specs.Lines.{one_of, more, words_of, answer_line}
 use Rattle.lines.specs.Lines.{comma_in, two_in, keyed, paired, start_in, line_in}
-use Rattle.running.specs.declared.Ended.{Ended}
 use Rattle.running.specs.Running.{Ran, ran, printed, lines_run, write_at, room_for, end_of, out_of, finished, run_of}
 use Rattle.running.specs.WholeCase.{joined, whole_in, whole_out}
 
@@ -53,7 +53,7 @@ whole_lines = refl
 
 -- ---- what a run leaves, by what its lines print
 
-pub end_of_lem : (out : List ℕ) (r : Ran) → end_of (finished (write_at out 0 r)) ≡ Ended.Length (length (printed r))
+pub end_of_lem : (out : List ℕ) (r : Ran) → end_of (finished (write_at out 0 r)) ≡ Ok (length (printed r))
 unfolding write_at
 end_of_lem out (ran ns es bytes) = rw zero-add
 
@@ -76,7 +76,7 @@ module _ (ns es out : List ℕ) (n : length ns ≡ 3072) (e : length es ≡ 8192
   unfolding run_of room_for fresh_of fits
   whole_run = rw (length_in, le-ltb (length out) 1694 room, eq-eqb (length ns) 3072 n, eq-eqb (length es) 8192 e)
 
-  pub whole_case_length : end_of (run_of small whole_in ns es out) ≡ Ended.Length 194
+  pub whole_case_length : end_of (run_of small whole_in ns es out) ≡ Ok 194
   whole_case_length =
       ap end_of whole_run ∙ end_of_lem out _ ∙ rw (fresh_lines ns es n e, length_out)
 

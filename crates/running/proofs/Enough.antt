@@ -1,15 +1,16 @@
 -- Room: 11 bytes of output for each byte of input are always enough, so 180,224 bytes are; and a run over tables and
 -- an output of the runner's own lengths always answers a length.
 -- In order: lines against bytes; what lines print; the run. Assumes nothing.
-use Prim.Native.Nat.{ℕ, suc, ◌+◌, ◌*◌, ◌≤◌}
+use Prim.Native.Nat.{ℕ, suc, ◌+◌, ◌*◌, ◌≤◌, ◌<◌}
 use mathlib.Core.Path.{◌≡◌, refl}
 use mathlib.Core.List.{List, [], ◌∷◌}
 use mathlib.Core.Logic.{⊎_elim}
 use mathlib.Core.Bool.{Bool, true, false, cond}
 use native.Mathlib.Omega.{arith}
+use Rattle.std.specs.Prelude.{Ok}
 use lib.ListN.{length, length-append}
 use lib.Dec.{ltb}
-use borrow.Author.Tests.{le-ltb, eq-eqb}
+use borrow.Author.Tests.{lt-ltb, le-ltb, eq-eqb}
 use Rattle.text.specs.Text.{Lines, over, torn, line, lines_of, joined, ends}
 use Rattle.text.proofs.Basics.{split}
 use Rattle.terms.specs.declared.Size.{Size}
@@ -17,11 +18,10 @@ use Rattle.terms.specs.Terms.{small}
 use Rattle.register.specs.declared.Opened.{Opened}
 use Rattle.register.specs.Register.{fits, opened, fresh_of, fresh_nodes, fresh_entries, fresh_counters}
 use Rattle.sixteen.specs.declared.Register.{Register}
-use Rattle.sixteen.specs.Sixteen.{Left, served, serve_of}
+use Rattle.sixteen.specs.Sixteen.{Left, served, serve_of, fresh_register}
 use Rattle.lines.specs.declared.Line.{Line}
 use Rattle.lines.specs.Lines.{line_in, answer_line, refused_line, bad_line, too_long}
-use Rattle.lines.proofs.Room.{bad_line_length, answer_room}
-use Rattle.running.specs.declared.Ended.{Ended}
+use Rattle.lines.proofs.Room.{bad_line_length, too_long_length, answer_room}
 use Rattle.running.specs.Running.{caller_of, Ran, ran, first, printed, answered, on_line, lines_run}
 use Rattle.running.specs.Running.{write_at, room_for, Outcome, end_of, finished, from_fresh, run_of}
 use Rattle.running.proofs.Loop.{room_read, room_long}
@@ -100,10 +100,11 @@ room_always : (n : ℕ) → room_for n ≤ 180224
 room_always n =
     ⊎_elim (λ h. omega (arith, room_long n h)) (λ h. omega (arith, room_read n h)) (split 16384 n)
 
--- a length, and not a refusal
+-- a length that the output has, and not a refusal
 pub record Runs (o : Outcome) : Type 0 where
   pub bytes : ℕ
-  pub is : end_of o ≡ Ended.Length bytes
+  pub is : end_of o ≡ Ok bytes
+  pub fits : bytes ≤ 180224
 
 fresh_fits : (ns es : List ℕ) → length ns ≡ 3072 → length es ≡ 8192 →
     fresh_of small ns es ≡ opened (fresh_nodes ns) (fresh_entries es) (Opened.Ready fresh_counters)
@@ -115,9 +116,20 @@ pub runs_always : (input ns es out : List ℕ) → length ns ≡ 3072 → length
 unfolding run_of
 runs_always input ns es out n e o =
     let room : room_for (length input) ≤ length out = omega (arith, room_always (length input)) in
-    rw (le-ltb (length out) (room_for (length input)) room, fresh_fits ns es n e) (by (ltb 16384 (length input)))
+    rw (le-ltb (length out) (room_for (length input)) room, fresh_fits ns es n e)
+    (⊎_elim long short (split 16384 (length input)))
   where
-    by : (t : Bool) → Runs (cond t (finished (write_at out 0 (ran ns es (refused_line too_long))))
-        (from_fresh small input out (opened (fresh_nodes ns) (fresh_entries es) (Opened.Ready fresh_counters))))
-    by true = record { bytes = _; is = end_of_lem out _ }
-    by false = record { bytes = _; is = end_of_lem out _ }
+    whole : Outcome
+    whole =
+        cond (ltb 16384 (length input)) (finished (write_at out 0 (ran ns es (refused_line too_long))))
+        (from_fresh small input out (opened (fresh_nodes ns) (fresh_entries es) (Opened.Ready fresh_counters)))
+
+    long : 16384 < length input → Runs whole
+    long h =
+        rw (lt-ltb 16384 (length input) h)
+        (record { bytes = _; is = end_of_lem out _; fits = omega (arith, too_long_length) })
+
+    short : length input ≤ 16384 → Runs whole
+    short h =
+        let most = output_room input small (fresh_nodes ns) (fresh_entries es) (fresh_register fresh_counters) in
+        rw (le-ltb 16384 (length input) h) (record { bytes = _; is = end_of_lem out _; fits = omega (arith, most) })

@@ -22,10 +22,8 @@ use Rattle.lines.specs.declared.Line.{Line}
 use Rattle.lines.specs.Lines.{answer_line, refused_line, bad_line}
 use Rattle.lines.proofs.Room.{bad_line_length, answer_length}
 use Rattle.running.specs.Running.{caller_of, Ran, ran, first, on_line, lines_run, Wrote, wrote, write_at, room_for}
-use Rattle.running.specs.OneRecord.{slot_of, call_of, turned, left, told, turn_of}
+use Rattle.running.specs.OneRecord.{slot_of, call_of, turned, told, turn_of}
 use Rattle.running.specs.OneLine.{read_at}
-use Rattle.running.specs.declared.Turned.{Turned}
-use Rattle.running.specs.declared.Read.{Read}
 use Rattle.running.proofs.OneLine.{begun_at}
 use Rattle.running.proofs.Slots.{call_slot}
 
@@ -52,44 +50,49 @@ module _ (all : Wrote) (z : Size) (s ns es out : List ℕ) (c : Counters) (ss : 
   unfolding lines_of lines_run write_at
   run_all h = rw (rest.same, drop_of_length-le s h, add-zero)
 
-  module _ (inside : p < length s) (l : Read) (read : l ≡ read_at s p) where
+  module _ (inside : p < length s) (l : Line × ℕ) (read : l ≡ read_at s p) where
     g : Register
     g = record { counters = c; sessions = ss }
 
-    opened : all ≡ write_at out a (on_line l.line z ns es g (lines_run (lines_of (drop l.next s)) z))
+    opened : all ≡ write_at out a (on_line l.0 z ns es g (lines_run (lines_of (drop l.1 s)) z))
     unfolding g
     opened = rw (rest.same, (begun_at s p inside l read).runs z ns es g)
 
-    pub run_bad : (out' : List ℕ) (r : ℕ) → l.line ≡ Line.Bad → Puts out out' a (refused_line bad_line) r →
-        Rest all z s ns es out' c ss l.next r
+    pub run_bad : (out' : List ℕ) (r : ℕ) → l.0 ≡ Line.Bad → Puts out out' a (refused_line bad_line) r →
+        Rest all z s ns es out' c ss l.1 r
     unfolding g
     run_bad out' r bad puts =
-        let after = lines_run (lines_of (drop l.next s)) z ns es g in
+        let after = lines_run (lines_of (drop l.1 s)) z ns es g in
         record { same = opened ∙ rw (bad, write_first out (refused_line bad_line) a after, ← puts.1, ← puts.0) }
 
-    module _ (call : Call) (is : l.line ≡ Line.Is call) (i : ℕ) (at_slot : i ≡ slot_of call) (x : Session)
+    module _ (call : Call) (is : l.0 ≡ Line.Is call) (i : ℕ) (at_slot : i ≡ slot_of call) (x : Session)
         (taken : x ≡ get_or ss i idle) where
       -- by what the call leaves
-      turn_on : (d : Done) → d ≡ call_of z ns es c call x → (ns' es' out' : List ℕ) (t : Turned) →
-          turned ns' es' out' t ≡ told out a (caller_of call) d →
-          Rest all z s ns' es' out' t.counters (set ss i t.session) l.next t.place
+      turn_on : (d : Done) → d ≡ call_of z ns es c call x →
+          (ns' es' out' : List ℕ) (c' : Counters) (x' : Session) (r' : ℕ) →
+          turned ns' es' out' c' x' r' ≡ told out a (caller_of call) d →
+          Rest all z s ns' es' out' c' (set ss i x') l.1 r'
       unfolding g
-      turn_on (done ns'' es'' r) did ns' es' out' t told =
+      turn_on (done ns'' es'' r) did ns' es' out' c' x' r' told =
           let said = answer_line (caller_of call) r.answer in
-          let w : turned ns' es' out' t ≡ turned ns'' es'' (sets out a said) (left r (a + length said)) = told in
+          let w : turned ns' es' out' c' x' r' ≡
+          turned ns'' es'' (sets out a said) r.counters r.session (a + length said) = told in
           let en : ns' ≡ ns'' = cc in
           let ee : es' ≡ es'' = cc in
           let eo : out' ≡ sets out a said = cc in
-          let et : t ≡ left r (a + length said) = cc in
+          let ec : c' ≡ r.counters = cc in
+          let ex : x' ≡ r.session = cc in
+          let er : r' ≡ a + length said = cc in
           let g' : Register = record { counters = r.counters; sessions = set ss i r.session } in
-          let put = write_first out said a (lines_run (lines_of (drop l.next s)) z ns'' es'' g') in
+          let put = write_first out said a (lines_run (lines_of (drop l.1 s)) z ns'' es'' g') in
           let at = call_slot z ns es g call in
-          record { same = opened ∙ rw (is, at, ← at_slot, ← taken, ← did, put, en, ee, eo, et) }
+          record { same = opened ∙ rw (is, at, ← at_slot, ← taken, ← did, put, en, ee, eo, ec, ex, er) }
 
-      pub run_call : (ns' es' out' : List ℕ) (t : Turned) → turned ns' es' out' t ≡ turn_of z ns es out a c call x →
-          Rest all z s ns' es' out' t.counters (set ss i t.session) l.next t.place
+      pub run_call : (ns' es' out' : List ℕ) (c' : Counters) (x' : Session) (r' : ℕ) →
+          turned ns' es' out' c' x' r' ≡ turn_of z ns es out a c call x →
+          Rest all z s ns' es' out' c' (set ss i x') l.1 r'
       unfolding turn_of
-      run_call ns' es' out' t did = turn_on (call_of z ns es c call x) refl ns' es' out' t did
+      run_call ns' es' out' c' x' r' did = turn_on (call_of z ns es c call x) refl ns' es' out' c' x' r' did
 
 pub ruleset running = (run_all, run_bad, run_call)
 
@@ -105,29 +108,29 @@ pub next_bad : (p q a r : ℕ) (out out' : List ℕ) → a ≤ 11 * p → p < q 
     r ≤ 11 * q
 next_bad p q a r out out' b h puts = omega (arith, puts.0, bad_line_length)
 
-module _ (s : List ℕ) (p a : ℕ) (inside : p < length s) (l : Read) (read : l ≡ read_at s p) where
-  pub read_from : p < l.next
+module _ (s : List ℕ) (p a : ℕ) (inside : p < length s) (l : Line × ℕ) (read : l ≡ read_at s p) where
+  pub read_from : p < l.1
   read_from = (begun_at s p inside l read).from
 
-  pub read_within : l.next ≤ length s
+  pub read_within : l.1 ≤ length s
   read_within = (begun_at s p inside l read).within
 
-  module _ (bound : a ≤ 11 * p) (call : Call) (is : l.line ≡ Line.Is call) where
-    six : a + 67 ≤ 11 * l.next
+  module _ (bound : a ≤ 11 * p) (call : Call) (is : l.0 ≡ Line.Is call) where
+    six : a + 67 ≤ 11 * l.1
     six = let b = begun_at s p inside l read in omega (arith, b.long call is)
 
     pub room_call : (m o : ℕ) → 11 * length s ≤ m → o ≡ m → a + 67 ≤ o
     room_call m o k z = omega (arith, six, read_within)
 
-    pub next_call : (y : Size) (ns es out ns' es' out' : List ℕ) (c : Counters) (x : Session) (t : Turned) →
-        turned ns' es' out' t ≡ turn_of y ns es out a c call x → t.place ≤ 11 * l.next
+    pub next_call : (y : Size) (ns es out ns' es' out' : List ℕ) (c c' : Counters) (x x' : Session) (r' : ℕ) →
+        turned ns' es' out' c' x' r' ≡ turn_of y ns es out a c call x → r' ≤ 11 * l.1
     unfolding turn_of
-    next_call y ns es out ns' es' out' c x t = by (call_of y ns es c call x)
+    next_call y ns es out ns' es' out' c c' x x' r' = by (call_of y ns es c call x)
       where
-        by : (d : Done) → turned ns' es' out' t ≡ told out a (caller_of call) d → t.place ≤ 11 * l.next
+        by : (d : Done) → turned ns' es' out' c' x' r' ≡ told out a (caller_of call) d → r' ≤ 11 * l.1
         by (done ns'' es'' r) h =
-            let et : t ≡ left r (a + length (answer_line (caller_of call) r.answer)) = cc in
-            rw et (omega (arith, six, answer_length (caller_of call) r.answer))
+            let er : r' ≡ a + length (answer_line (caller_of call) r.answer) = cc in
+            omega (arith, six, er, answer_length (caller_of call) r.answer)
 
 pub ruleset onward = (falls, read_from, read_within)
 
@@ -148,5 +151,3 @@ room_read n h = rw (le-leb n 16384 h)
 pub room_long : (n : ℕ) → 16384 < n → 11 ≡ room_for n
 unfolding room_for
 room_long n h = rw (lt-leb n 16384 h)
-
-pub ruleset asked = (room_read, room_long)

@@ -9,6 +9,7 @@ use mathlib.Core.Path.{◌≡◌, refl, sym, ◌∙◌, ap}
 use mathlib.Core.List.{List, [], ◌∷◌, ◌++◌}
 use native.Mathlib.Omega.{arith}
 use native.Mathlib.Nat.{zero-add}
+use Rattle.std.specs.Prelude.{Ok}
 use lib.ListN.{length, get_or}
 use lib.Seq.{sets}
 use borrow.Author.Tests.{lt-ltb, le-ltb, lt-leb}
@@ -21,7 +22,6 @@ use Rattle.sixteen.specs.Sixteen.{Left, served, serve_of}
 use Rattle.lines.specs.declared.Line.{Line}
 use Rattle.lines.specs.Lines.{one_of, more, words_of, answer_line, refused_line, bad_line, too_long, line_in}
 use Rattle.lines.proofs.Room.{too_long_length}
-use Rattle.running.specs.declared.Ended.{Ended}
 use Rattle.running.specs.Running.{caller_of, Ran, ran, first, printed, answered, on_line, lines_run}
 use Rattle.running.specs.Running.{write_at, room_for, outcome, run_of}
 
@@ -124,7 +124,7 @@ unfolding refused_line one_of
 nothing_not_fourteen tail = apart _ _ 0 (λ w. omega arith)
 
 pub too_long_when : (z : Size) (input ns es out : List ℕ) → 16384 < length input → 11 ≤ length out →
-    run_of z input ns es out ≡ outcome ns es (sets out 0 (refused_line too_long)) (Ended.Length 11)
+    run_of z input ns es out ≡ outcome ns es (sets out 0 (refused_line too_long)) (Ok 11)
 unfolding run_of room_for write_at
 too_long_when z input ns es out long room =
     rw (

@@ -27,7 +27,7 @@ use Rattle.sixteen.specs.Sixteen.{session_of, with, Left, served, after_step, se
 use Rattle.running.specs.Running.{caller_of}
 use Rattle.lines.specs.Lines.{answer_line}
 use Rattle.lines.proofs.Room.{answer_length}
-use Rattle.running.specs.OneRecord.{slot_of, begun, call_of, turned, left, turn_of}
+use Rattle.running.specs.OneRecord.{slot_of, begun, call_of, turned, turn_of}
 
 -- ---- a record put back as it was
 
@@ -113,32 +113,13 @@ module _ (z : Size) (ns es : List ℕ) (g : Register) where
 
 -- ---- the ways through the code
 
-module _ (call : Call) (who : ℕ) (called : who ≡ caller_of call) where
-  pub slot_below : who < 16 → who ≡ slot_of call
-  slot_below h = omega arith
-
-  pub slot_above : 16 ≤ who → 15 ≡ slot_of call
-  slot_above h = omega arith
-
-pub ruleset slots = (slot_below, slot_above)
-
-module _ (z : Size) (ns es : List ℕ) (c : Counters) (call : Call) (s : Session) (who : ℕ) where
-  pub one_start : (op : Op) (r : Started) → call ≡ Call.Start who op → r ≡ start_of z ns es who s op →
-      done ns es (begun c r) ≡ call_of z ns es c call s
-  one_start op r e h = rw (e, h)
-
-  pub one_step : (d : Done) → call ≡ Call.Step who → d ≡ step_of z ns es c who s → d ≡ call_of z ns es c call s
-  one_step d e h = rw (e, h)
-
-pub ruleset ones = (one_start, one_step)
-
 pub answer_fits : (place who m o : ℕ) (a : Answer) → place + 67 ≤ m → o ≡ m → place + length (answer_line who a) ≤ o
 answer_fits place who m o a room e = omega (arith, answer_length who a)
 
 pub turn_is : (z : Size) (ns es out ns' es' out' : List ℕ) (place who next : ℕ) (c : Counters) (call : Call)
     (s : Session) (r : Stepped) → done ns' es' r ≡ call_of z ns es c call s → who ≡ caller_of call →
     Puts out out' place (answer_line who r.answer) next →
-    turned ns' es' out' (left r next) ≡ turn_of z ns es out place c call s
+    turned ns' es' out' r.counters r.session next ≡ turn_of z ns es out place c call s
 unfolding turn_of
 turn_is z ns es out ns' es' out' place who next c call s r did called puts =
     rw (← did, ← called, puts.0, puts.1)

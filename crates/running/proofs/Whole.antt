@@ -5,6 +5,7 @@ use mathlib.Core.Path.{◌≡◌}
 use mathlib.Core.List.{List}
 use mathlib.Core.Logic.{⊎_elim}
 use native.Mathlib.Omega.{arith}
+use Rattle.std.specs.Prelude.{Ok, Err}
 use lib.ListN.{length}
 use lib.Dec.{lit≤}
 use borrow.Author.Tests.{lt-ltb, le-ltb}
@@ -19,7 +20,7 @@ use Rattle.sixteen.specs.Sixteen.{fresh_register}
 use Rattle.lines.specs.Lines.{refused_line, too_long}
 use Rattle.lines.proofs.Room.{too_long_length}
 use Rattle.running.specs.Running.{lines_run, wrote, write_at, room_for, outcome, run_of}
-use Rattle.running.specs.declared.Ended.{Ended}
+use Rattle.running.specs.declared.Unrun.{Unrun}
 use Rattle.running.proofs.Loop.{room_read, room_long}
 
 -- ---- room
@@ -39,13 +40,13 @@ pub ruleset enough = (room_for_lines, room_for_one)
 -- ---- the ways out
 
 module _ (z : Size) (input ns es out : List ℕ) (k : ℕ) (asked : k ≡ room_for (length input)) where
-  pub no_room : length out < k → outcome ns es out Ended.NoRoom ≡ run_of z input ns es out
+  pub no_room : length out < k → outcome ns es out (Err Unrun.NoRoom) ≡ run_of z input ns es out
   unfolding run_of
   no_room h = rw (← asked, lt-ltb (length out) k h)
 
   module _ (room : k ≤ length out) where
     pub too_long_lem : (out' : List ℕ) (r j : ℕ) → j < length input → 16384 ≤ j →
-        Puts out out' 0 (refused_line too_long) r → outcome ns es out' (Ended.Length r) ≡ run_of z input ns es out
+        Puts out out' 0 (refused_line too_long) r → outcome ns es out' (Ok r) ≡ run_of z input ns es out
     unfolding run_of write_at
     too_long_lem out' r j h b puts =
         rw (← asked, le-ltb (length out) k room, lt-ltb 16384 (length input) (omega arith), puts.0, puts.1)
@@ -54,13 +55,13 @@ module _ (z : Size) (input ns es out : List ℕ) (k : ℕ) (asked : k ≡ room_f
         (fresh : opened ns₁ es₁ o ≡ fresh_of z ns es) where
       pub ran_through : (c : Counters) (ns₂ es₂ out₂ : List ℕ) (r : ℕ) → o ≡ Opened.Ready c →
           wrote ns₂ es₂ out₂ r ≡ write_at out 0 (lines_run (lines_of input) z ns₁ es₁ (fresh_register c)) →
-          outcome ns₂ es₂ out₂ (Ended.Length r) ≡ run_of z input ns es out
+          outcome ns₂ es₂ out₂ (Ok r) ≡ run_of z input ns es out
       unfolding run_of
       ran_through c ns₂ es₂ out₂ r ready did =
           rw (← asked, le-ltb (length out) k room, le-ltb 16384 (length input) within, ← fresh, ready, ← did)
 
       pub bad_table : (why : Refusal) → o ≡ Opened.Refused why →
-          outcome ns₁ es₁ out Ended.BadTable ≡ run_of z input ns es out
+          outcome ns₁ es₁ out (Err Unrun.BadTable) ≡ run_of z input ns es out
       unfolding run_of
       bad_table why refused =
           rw (← asked, le-ltb (length out) k room, le-ltb 16384 (length input) within, ← fresh, refused)

@@ -4,13 +4,12 @@ use Rattle.std.specs.Prelude.{ℕ, ◌+◌, ◌-◌, List, cond, length, take, d
 use Rattle.text.specs.Text.{line_length}
 use Rattle.lines.specs.declared.Line.{Line}
 use Rattle.lines.specs.Lines.{line_in}
-use Rattle.running.specs.declared.Read.{Read}
 
 -- the bytes from p to e are a line where byte 10 stands at e, and bad where the input ends there
-abbrev pub read_to : List ℕ → ℕ → ℕ → Read
+abbrev pub read_to : List ℕ → ℕ → ℕ → Line × ℕ
 read_to s p e =
-    cond (ltb e (length s)) (record { line = line_in (take (e - p) (drop p s)); next = e + 1 })
-    (record { line = Line.Bad; next = e })
+    cond (ltb e (length s)) (line_in (take (e - p) (drop p s)), e + 1)
+    (Line.Bad, e)
 
-unfoldable pub read_at : List ℕ → ℕ → Read
+unfoldable pub read_at : List ℕ → ℕ → Line × ℕ
 read_at s p = read_to s p (p + line_length (drop p s))

@@ -13,7 +13,6 @@ use Rattle.register.specs.Register.{start_of, step_of}
 use Rattle.sixteen.specs.declared.Call.{Call}
 use Rattle.lines.specs.Lines.{answer_line}
 use Rattle.running.specs.Running.{caller_of}
-use Rattle.running.specs.declared.Turned.{Turned}
 
 -- a session above 15 has no record, and is lent the last one
 abbrev pub slot_of : Call → ℕ
@@ -26,16 +25,14 @@ abbrev pub call_of : Size → List ℕ → List ℕ → Counters → Call → Se
 call_of z ns es c (Call.Start who op) s = done ns es (begun c (start_of z ns es who s op))
 call_of z ns es c (Call.Step who) s = step_of z ns es c who s
 
--- both tables, the output, and what a turn leaves beside them
+-- both tables, the output, the counters, the session's record, and the place after the answer
 pub data Turn : Type 0 where
-  turned : List ℕ → List ℕ → List ℕ → Turned → Turn
-
-abbrev pub left : Stepped → ℕ → Turned
-left r place = record { counters = r.counters; session = r.session; place = place }
+  turned : List ℕ → List ℕ → List ℕ → Counters → Session → ℕ → Turn
 
 abbrev pub told : List ℕ → ℕ → ℕ → Done → Turn
 told out place who (done ns es r) =
-    turned ns es (sets out place (answer_line who r.answer)) (left r (place + length (answer_line who r.answer)))
+    turned ns es (sets out place (answer_line who r.answer)) r.counters r.session
+    (place + length (answer_line who r.answer))
 
 unfoldable pub turn_of : Size → List ℕ → List ℕ → List ℕ → ℕ → Counters → Call → Session → Turn
 turn_of z ns es out place c call s = told out place (caller_of call) (call_of z ns es c call s)

@@ -3,7 +3,7 @@
 -- `z` is the size, `ns` and `es` are the tables, `g` is the register beside them.
 -- Not here: what a line says and how an answer is printed (crate lines), what a call does (crate sixteen).
 -- Assumes nothing.
-use Rattle.std.specs.Prelude.{ℕ, ◌+◌, ◌*◌, List, [], ◌++◌, cond, length, ltb, leb}
+use Rattle.std.specs.Prelude.{ℕ, ◌+◌, ◌*◌, List, [], ◌++◌, cond, length, ltb, leb, Result, Ok, Err}
 use Rattle.std.proofs.lemmas.List.Edits.{sets}
 use Rattle.text.specs.Text.{Lines, over, torn, line, lines_of}
 use Rattle.terms.specs.declared.Size.{Size}
@@ -14,7 +14,7 @@ use Rattle.sixteen.specs.declared.Register.{Register}
 use Rattle.sixteen.specs.Sixteen.{Left, served, serve_of, fresh_register}
 use Rattle.lines.specs.declared.Line.{Line}
 use Rattle.lines.specs.Lines.{line_in, answer_line, refused_line, bad_line, too_long}
-use Rattle.running.specs.declared.Ended.{Ended}
+use Rattle.running.specs.declared.Unrun.{Unrun}
 
 -- ---- a line
 
@@ -67,27 +67,27 @@ room_for n = cond (leb n longest) (11 * n) 11
 
 -- both tables, the output and the answer
 pub data Outcome : Type 0 where
-  outcome : List ℕ → List ℕ → List ℕ → Ended → Outcome
+  outcome : List ℕ → List ℕ → List ℕ → Result ℕ Unrun → Outcome
 
-abbrev pub end_of : Outcome → Ended
+abbrev pub end_of : Outcome → Result ℕ Unrun
 end_of (outcome ns es out end) = end
 
 abbrev pub out_of : Outcome → List ℕ
 out_of (outcome ns es out end) = out
 
 abbrev pub finished : Wrote → Outcome
-finished (wrote ns es out length) = outcome ns es out (Ended.Length length)
+finished (wrote ns es out length) = outcome ns es out (Ok length)
 
 abbrev pub from_fresh : Size → List ℕ → List ℕ → Fresh → Outcome
 from_fresh z input out (opened ns es (Opened.Ready c)) =
     finished (write_at out 0 (lines_run (lines_of input) z ns es (fresh_register c)))
-from_fresh z input out (opened ns es (Opened.Refused why)) = outcome ns es out Ended.BadTable
+from_fresh z input out (opened ns es (Opened.Refused why)) = outcome ns es out (Err Unrun.BadTable)
 
 -- in this order: no room, too long, a table of another length
 unfoldable pub run_of : Size → List ℕ → List ℕ → List ℕ → List ℕ → Outcome
 run_of z input ns es out =
     cond (ltb (length out) (room_for (length input)))
-    (outcome ns es out Ended.NoRoom)
+    (outcome ns es out (Err Unrun.NoRoom))
     (cond (ltb longest (length input))
     (finished (write_at out 0 (ran ns es (refused_line too_long))))
     (from_fresh z input out (fresh_of z ns es)))

@@ -21,10 +21,9 @@ use sixteen::Call;
 use steps::{Session, Stepped};
 use terms::Counters;
 
-// How many bytes were written, or why none were: the output is too short, or a lent table has another length.
+// Why a run writes nothing: the output is too short, or a lent table has another length.
 #[derive(Clone, Copy)]
-pub enum Ended {
-    Length(usize),
+pub enum Unrun {
     NoRoom,
     BadTable,
 }
@@ -33,8 +32,7 @@ fn caller(call: Call) -> u32
     ensures { result ≡ caller_of call }
 {
     match call {
-        Call::Start(who, _) => who,
-        Call::Step(who) => who,
+        Call::Start(who, _) | Call::Step(who) => who,
     }
 }
 
@@ -42,11 +40,7 @@ fn caller(call: Call) -> u32
 fn slot(call: Call) -> usize
     ensures { result ≡ slot_of call }
 {
-    let who = caller(call);
-    if who < 16 {
-        return who as usize;
-    }
-    15
+    caller(call).min(15) as usize
 }
 
 // A call, with its session's record.
@@ -56,84 +50,57 @@ fn serve_one(nodes: &mut [u32], entries: &mut [u32], c: Counters, call: Call, s:
 {
     match call {
         Call::Start(who, op) => {
-            let out = register::start(nodes, entries, who, s, op);
-            let session = out.session;
-            let answer = out.answer;
+            let started = register::start(nodes, entries, who, s, op);
             Stepped {
                 counters: c,
-                session,
-                answer,
+                session: started.session,
+                answer: started.answer,
             }
         }
         Call::Step(who) => register::step(nodes, entries, c, who, s),
     }
 }
 
-// What a turn leaves beside the tables and the output; `place` is the one after the answer.
-#[derive(Clone, Copy)]
-struct Turned {
-    counters: Counters,
-    session: Session,
-    place: usize,
-}
-
-// A call, and its answer printed at `place`. No answer is longer than 67 bytes.
+// A call, and its answer printed at `place`: the place after it. No answer is longer than 67 bytes.
 fn turn(
     nodes: &mut [u32],
     entries: &mut [u32],
     out: &mut [u8],
     place: usize,
-    c: Counters,
+    c: &mut Counters,
     call: Call,
-    s: Session,
-) -> Turned
+    s: &mut Session,
+) -> usize
     requires { place + 67 ≤ length out.old }
-    ensures { turned nodes.new entries.new out.new result
-        ≡ turn_of small nodes.old entries.old out.old place c call s }
+    ensures { turned nodes.new entries.new out.new c.new s.new result
+        ≡ turn_of small nodes.old entries.old out.old place c.old call s.old }
 {
-    let r = serve_one(nodes, entries, c, call, s);
-    let counters = r.counters;
-    let session = r.session;
-    let answer = r.answer;
-    let next = lines::print(out, place, caller(call), answer);
-    Turned {
-        counters,
-        session,
-        place: next,
-    }
+    let stepped = serve_one(nodes, entries, *c, call, *s);
+    *c = stepped.counters;
+    *s = stepped.session;
+    lines::print(out, place, caller(call), stepped.answer)
 }
 
 // 11 bytes for each byte of input: an empty line is answered by 11. Input that is too long is answered by one line.
+#[tactic(auto, unfolding(crate::specs::Running::room_for))]
 fn room(n: usize) -> usize
     ensures { result ≡ room_for n }
 {
-    if n <= 16384 {
-        return 11 * n;
-    }
-    11
+    if n <= 16384 { 11 * n } else { 11 }
 }
 
-// A line without its byte 10, and the place after both.
-#[derive(Clone, Copy)]
-struct Read {
-    line: Line,
-    next: usize,
-}
-
-// The line at `place`. A last line without byte 10 is bad, whatever it says.
-fn line_at(input: &[u8], place: usize) -> Read
+// The line at `place`, without its byte 10, and the place after both. A last line without byte 10 is bad, whatever it
+// says.
+fn line_at(input: &[u8], place: usize) -> (Line, usize)
     requires { place ≤ length input.now }
     ensures { result ≡ read_at input.now place }
 {
     let e = text::line_end(input, place);
     let line = lines::read_line(&input[place..e]);
     if e < input.len() {
-        return Read { line, next: e + 1 };
+        return (line, e + 1);
     }
-    Read {
-        line: Line::Bad,
-        next: e,
-    }
+    (Line::Bad, e)
 }
 
 // The lines one after the other, on the register that the tables hold with the counters c and sixteen idle records.
@@ -150,29 +117,19 @@ fn serve_lines(
         entries.old (fresh_register c)) }
 {
     let mut counters = c;
-    let idle = steps::idle_session();
-    let mut sessions = [idle; 16];
-    let mut place: usize = 0;
-    let mut at: usize = 0;
+    let mut sessions = [steps::idle_session(); 16];
+    let mut place = 0;
+    let mut at = 0;
     while place < input.len() {
-        let r = line_at(input, place);
-        let next = r.next;
-        let line = r.line;
+        let (line, next) = line_at(input, place);
+        place = next;
         match line {
             Line::Bad => {
                 at = lines::print_refusal(out, at, 13);
-                place = next;
             }
             Line::Is(call) => {
-                let i = slot(call);
-                let s = sessions[i];
-                let t = turn(nodes, entries, out, at, counters, call, s);
-                let kept = t.session;
-                sessions[i] = kept;
-                let used = t.counters;
-                counters = used;
-                at = t.place;
-                place = next;
+                let session = &mut sessions[slot(call)];
+                at = turn(nodes, entries, out, at, &mut counters, call, session);
             }
         }
     }
@@ -180,22 +137,23 @@ fn serve_lines(
 }
 
 // The whole run. It writes nothing where it answers NoRoom or BadTable.
-pub fn run(input: &[u8], nodes: &mut [u32], entries: &mut [u32], out: &mut [u8]) -> Ended
+pub fn run(
+    input: &[u8],
+    nodes: &mut [u32],
+    entries: &mut [u32],
+    out: &mut [u8],
+) -> Result<usize, Unrun>
     ensures { outcome nodes.new entries.new out.new result
         ≡ run_of small input.now nodes.old entries.old out.old }
 {
     if out.len() < room(input.len()) {
-        return Ended::NoRoom;
+        return Err(Unrun::NoRoom);
     }
     if 16384 < input.len() {
-        let k = lines::print_refusal(out, 0, 14);
-        return Ended::Length(k);
+        return Ok(lines::print_refusal(out, 0, 14));
     }
     match register::fresh(nodes, entries) {
-        Opened::Ready(c) => {
-            let k = serve_lines(input, nodes, entries, out, c);
-            Ended::Length(k)
-        }
-        Opened::Refused(_) => Ended::BadTable,
+        Opened::Ready(c) => Ok(serve_lines(input, nodes, entries, out, c)),
+        Opened::Refused(_) => Err(Unrun::BadTable),
     }
 }

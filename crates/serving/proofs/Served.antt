@@ -2,13 +2,13 @@
 -- In order: what is read of an input whose bytes are known; the answers; a run of the runner's lengths is not refused.
 -- Assumes nothing.
 use Rattle.std.proofs.Common.{◌≡◌, ℕ, suc, ◌<◌, ◌≤◌, List, [], ◌∷◌, ◌++◌, length, take}
-use Rattle.std.proofs.Common.{sym, ap, ◌∙◌, arith, length-take-le}
-use Rattle.std.specs.Prelude.{Option, None, Some, IfSome}
+use Rattle.std.proofs.Common.{refl, sym, ap, ◌∙◌, arith, length-take-le}
+use Rattle.std.specs.Prelude.{Option, None, Some, IfSome, Result, Ok, IsOk}
 use Rattle.std.proofs.lemmas.List.{append-nil, take_all, take-append-le}
 use Rattle.std.specs.Io.KnownBytes.{Consumes, Appends, IsAtEnd}
 use native.Mathlib.Decide.{dec_lt}
 use Rattle.terms.specs.Terms.{small}
-use Rattle.running.specs.declared.Ended.{Ended}
+use Rattle.running.specs.declared.Unrun.{Unrun}
 use Rattle.running.specs.Running.{outcome, run_of, end_of}
 use Rattle.running.proofs.Enough.{Runs, runs_always}
 use Rattle.serving.specs.Serving.{answers_of, Answers}
@@ -36,10 +36,10 @@ first_read m n (Some xs) (Some zs) buf is le h e =
 
 -- ---- the answers
 
-pub answered : (known before after : Option (List ℕ)) (input ns es out ns' es' out' : List ℕ) (end : Ended) (k : ℕ) →
+pub answered : (known before after : Option (List ℕ)) (input ns es out ns' es' out' : List ℕ) (end : Result ℕ Unrun) (k : ℕ) →
     IfSome known (λ xs. take 16385 xs ≡ input) →
     length ns ≡ 3072 → length es ≡ 8192 → length out ≡ 180224 →
-    outcome ns' es' out' end ≡ run_of small input ns es out → end ≡ Ended.Length k →
+    outcome ns' es' out' end ≡ run_of small input ns es out → end ≡ Ok k →
     Appends before after (take k out') →
     IfSome known (λ xs. (bytes : List ℕ) × Answers xs bytes × Appends before after bytes)
 answered None before after input ns es out ns' es' out' end k i n e o h is a = tt
@@ -58,29 +58,22 @@ answered (Some xs) before after input ns es out ns' es' out' end k i n e o h is 
   a,
 )
 
--- ---- a run of the runner's lengths is not refused
+-- ---- a run of the runner's lengths is not refused, and what it answers fits
 
-abbrev is_length : Ended → ℕ
-is_length (Ended.Length k) = 1
-is_length Ended.NoRoom = 0
-is_length Ended.BadTable = 0
+module _ (input ns es out ns' es' out' : List ℕ) (end : Result ℕ Unrun) (n : length ns ≡ 3072)
+    (e : length es ≡ 8192) (o : length out ≡ 180224)
+    (ran : outcome ns' es' out' end ≡ run_of small input ns es out) where
+  always : Runs (run_of small input ns es out)
+  always = runs_always input ns es out n e o
 
-pub never : {A : Type 0} (input ns es out ns' es' out' : List ℕ) (end : Ended) →
-    length ns ≡ 3072 → length es ≡ 8192 → length out ≡ 180224 →
-    outcome ns' es' out' end ≡ run_of small input ns es out → is_length end ≡ 0 → A
-never input ns es out ns' es' out' end n e o h none =
-    let r : Runs (run_of small input ns es out) = runs_always input ns es out n e o in
-    let one : is_length end ≡ 1 = ap is_length (ap end_of h ∙ r.is) in
-    absurd (omega arith)
+  ends : end ≡ Ok always.bytes
+  ends = ap end_of ran ∙ always.is
 
-pub never_no_room : {A : Type 0} (input ns es out ns' es' out' : List ℕ) (end : Ended) →
-    length ns ≡ 3072 → length es ≡ 8192 → length out ≡ 180224 →
-    outcome ns' es' out' end ≡ run_of small input ns es out → end ≡ Ended.NoRoom → A
-never_no_room input ns es out ns' es' out' end n e o h is =
-    never input ns es out ns' es' out' end n e o h (ap is_length is)
+  pub is_ok_run : IsOk end
+  is_ok_run = rw ends refl
 
-pub never_bad_table : {A : Type 0} (input ns es out ns' es' out' : List ℕ) (end : Ended) →
-    length ns ≡ 3072 → length es ≡ 8192 → length out ≡ 180224 →
-    outcome ns' es' out' end ≡ run_of small input ns es out → end ≡ Ended.BadTable → A
-never_bad_table input ns es out ns' es' out' end n e o h is =
-    never input ns es out ns' es' out' end n e o h (ap is_length is)
+  pub fits_run : (k : ℕ) → end ≡ Ok k → k ≤ 180224
+  fits_run k is =
+      let both : Ok k ≡ Ok always.bytes = sym is ∙ ends in
+      let same : k ≡ always.bytes = cc in
+      omega (arith, same, always.fits)
