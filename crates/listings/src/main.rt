@@ -7,8 +7,7 @@
 use listing::Written;
 use loading::Loaded;
 use scanning::Reading;
-use std::env::{Env, FillError};
-use std::fmt::InlineText;
+use serving::files;
 use std::fs::File;
 use std::io;
 
@@ -58,21 +57,11 @@ fn reads(rt: &impl Print, input: &[u8]) -> io::Result<()> {
 
 // ---- loading
 
-fn wide(x: u32) -> u64 {
-    x as u64
-}
-
 // Every word counts, and its place: three times the sum so far, and the word, without the carry.
 fn sum(words: &[u32]) -> u64 {
-    let mut h: u64 = 0;
-    let mut i: usize = 0;
-    while i < words.len() {
-        let twice = h.wrapping_add(h);
-        let more = h.wrapping_add(wide(words[i]));
-        h = twice.wrapping_add(more);
-        i += 1;
-    }
-    h
+    words.iter().fold(0u64, |so_far, word| {
+        so_far.wrapping_mul(3).wrapping_add(u64::from(*word))
+    })
 }
 
 fn show_loaded(rt: &impl Print, r: Loaded) -> io::Result<()> {
@@ -120,66 +109,16 @@ fn long_entries(rt: &impl Print) -> io::Result<()> {
 // ---- files
 
 // At most 65,536 bytes of it.
-fn file(rt: &HostRuntime, source: &mut File) -> io::Result<()> {
+fn answer(rt: &impl Print, mut file: File) -> io::Result<()> {
     let mut input = [0u8; 65536];
-    let n = serving::read_full(source, &mut input)?;
+    let n = serving::read_full(&mut file, &mut input)?;
     reads(rt, &input[..n])?;
     load_into_sevens(rt, &input[..n])
 }
 
-// A line on standard error: the path, and why it did not open.
-fn fail(rt: &HostRuntime, path: &[u8], error: io::Error) -> io::Result<()> {
-    let text = InlineText::<256>::of(error);
-    let said = text.as_str();
-    let why = match said.split_once(" (os error ") {
-        Some((why, _)) => why,
-        None => said,
-    };
-    rt.stderr().write_all(path)?;
-    eprintln!(rt; ": {why}")
-}
-
-fn open(rt: &HostRuntime, path: &[u8]) -> io::Result<File> {
-    match std::str::from_utf8(path) {
-        Ok(name) => File::open(rt, name),
-        Err(_) => Err(io::Error::from(io::ErrorKind::InvalidFilename)),
-    }
-}
-
-fn named(rt: &HostRuntime, path: &[u8]) -> io::Result<()> {
-    rt.write_all(b"== ")?;
-    rt.write_all(path)?;
-    rt.write_all(b"\n")?;
-    match open(rt, path) {
-        Ok(mut source) => file(rt, &mut source),
-        Err(e) => fail(rt, path, e),
-    }
-}
-
-// Argument i, and whether there is one. One that has more bytes than a path may have is an empty name.
-fn argument(rt: &HostRuntime, i: usize) -> io::Result<bool> {
-    let mut path = [0u8; 4096];
-    let length = match rt.arg(i, &mut path) {
-        Ok(n) => n,
-        Err(FillError::TooLong) => 0,
-        Err(FillError::NotPresent) => return Ok(false),
-    };
-    named(rt, &path[..length])?;
-    Ok(true)
-}
-
-fn files(rt: &HostRuntime) -> io::Result<()> {
-    for i in 1..usize::MAX {
-        if !argument(rt, i)? {
-            break;
-        }
-    }
-    Ok(())
-}
-
 fn main(rt: HostRuntime) -> io::Result<()> {
-    rt.write_all(b"== a node table too short, an entry table too long\n")?;
+    println!(rt; "== a node table too short, an entry table too long")?;
     short_nodes(&rt)?;
     long_entries(&rt)?;
-    files(&rt)
+    files::each(&rt, |file| answer(&rt, file))
 }
