@@ -6,6 +6,7 @@ use Prim.Native.Nat.{ℕ, ◌+◌, ◌≤◌, ◌<◌}
 use mathlib.Core.Path.{◌≡◌, refl, sym, ap, ◌∙◌}
 use mathlib.Core.List.{List}
 use mathlib.Core.Bool.{Bool, true, false, cond, ◌&&◌}
+use Rattle.std.specs.Prelude.{Option, Some, None, Ok}
 use native.Mathlib.Omega.{arith}
 use lib.Dec.{ltb, eqb}
 use borrow.Author.Tests.{ltb-true, eqb-true, eq-eqb, ne_eqb}
@@ -25,7 +26,6 @@ use Rattle.finishing.proofs.Ways as finishing
 use Rattle.encoding.specs.declared.OpWords.{OpWords}
 use Rattle.encoding.specs.declared.PhaseWords.{PhaseWords}
 use Rattle.encoding.specs.declared.Words.{Words}
-use Rattle.encoding.specs.declared.Decoded.{Decoded}
 use Rattle.encoding.specs.Encoding.{phase_with, phase_words, phase_from, session_from, op_right, decode}
 use Rattle.encoding.proofs.Ways.{is_insert, is_remove, is_walk, is_lock, is_lock_curr, is_check, is_link}
 use Rattle.encoding.proofs.Ways.{is_walking, is_updating, right_insert, right_key}
@@ -96,23 +96,23 @@ module _ (z : Size) (ns es : List ℕ) (who : ℕ) (w : Words) where
   abbrev Told : Advanced → Type 0
   Told = AdvanceTold z ns es who w
 
-  tells_none : (ns' : List ℕ) → Told (advanced ns' 0)
-  tells_none ns' some = absurd (some refl)
+  tells_none : (ns' : List ℕ) → Told (advanced ns' None)
+  tells_none ns' = tt
 
   held : (t : Bool) (x : Advanced) → (t ≡ true → Told x) → Told (cond t x (still ns))
   held t x f = cond_cases Told t x (still ns) f (λ _. tells_none ns)
 
-  abbrev Leads : ℕ → Type 0
+  abbrev Leads : Option ℕ → Type 0
   Leads f = Told (advanced ns f)
 
-  kept : (t : Bool) (f : ℕ) → (t ≡ true → Leads f) → Leads (cond t f 0)
-  kept t f g = cond_cases Leads t f 0 g (λ _. tells_none ns)
+  kept : (t : Bool) (f : Option ℕ) → (t ≡ true → Leads f) → Leads (cond t f None)
+  kept t f g = cond_cases Leads t f None g (λ _. tells_none ns)
 
   module _ (u : Update w) where
     -- ---- a phase that leads to another, of the first four
     module _ (some : w.phase.phase ≡ 0 → ⊥) (first : w.phase.phase ≤ 4) (unused : early_zeros w.phase ≡ true)
       where
-        early_read : decode w ≡ Decoded.Record (session_from w)
+        early_read : decode w ≡ Ok (session_from w)
         early_read =
             right_decodes w u.right (sym (front_all w.phase some (omega arith)))
             (sym (back_walks w.phase true (omega arith) (sym unused)))
@@ -124,9 +124,9 @@ module _ (z : Size) (ns es : List ℕ) (who : ℕ) (w : Words) where
             → under_way here ≡ true → phase_words then ≡ phase_with f w.phase.a w.phase.b 0 0 0
             → ((c : Counters) → act_step z ns es c who (named w) here
             ≡ done ns' es (gives c (named w) then Answer.Working))
-            → Told (advanced ns' f)
+            → Told (advanced ns' (Some f))
         unfolding number_of
-        early_agrees ns' here then f at way words acts _ =
+        early_agrees ns' here then f at way words acts =
             agrees z ns es who w ns' here then Answer.Working _ early_read at u.names way
             (words ∙ early_words f) refl acts
 
@@ -135,7 +135,7 @@ module _ (z : Size) (ns es : List ℕ) (who : ℕ) (w : Words) where
         → Leads (arrive_ahead z ns w.op.first w.phase.b)
     unfolding arrive_ahead
     walk_told one unused =
-        kept _ _ (λ known. ltb_cases Leads (key_at ns w.phase.b) w.op.first 0 2 (λ _. tells_none ns)
+        kept _ _ (λ known. ltb_cases Leads (key_at ns w.phase.b) w.op.first None (Some 2) (λ _. tells_none ns)
         (λ reached. early_agrees (omega arith) (omega arith) unused ns _ (Phase.Lock w.phase.a w.phase.b) 2
         (is_walking w.phase _ (omega arith) (omega arith) (is_walk _ _ _ one)) refl refl
         (λ c. ap (done ns es) (sym (walk_arrives _ _ _ _ _ _ _ _ _ _ (ltb-true _ _ known) refl (sym u.sought)
@@ -167,7 +167,7 @@ module _ (z : Size) (ns es : List ℕ) (who : ℕ) (w : Words) where
       where
         check_agrees : ((c : Counters) → moved ns (works c (named w) (Phase.Prepare w.phase.a w.phase.b))
             ≡ check_step z ns c (named w) w.phase.a w.phase.b)
-            → Leads 5
+            → Leads (Some 5)
         check_agrees acts =
             early_agrees (omega arith) (omega arith) unused ns (Phase.Check w.phase.a w.phase.b)
             (Phase.Prepare w.phase.a w.phase.b) 5
@@ -188,9 +188,9 @@ module _ (z : Size) (ns es : List ℕ) (who : ℕ) (w : Words) where
             (locking.remove_goes _ _ _ _ _ _ _ pred_in curr_in refl _ _ (linked (eqb-true _ _ stays')) refl
             (sym u.sought) _ (eqb-true _ _ same) refl))))
 
-        insert_told : removing w.op ≡ false → Leads (cond (eqb (key_at ns w.phase.b) w.op.first) 0 5)
+        insert_told : removing w.op ≡ false → Leads (cond (eqb (key_at ns w.phase.b) w.op.first) None (Some 5))
         insert_told h =
-            eqb_cases Leads (key_at ns w.phase.b) w.op.first 0 5 (λ _. tells_none ns)
+            eqb_cases Leads (key_at ns w.phase.b) w.op.first None (Some 5) (λ _. tells_none ns)
             (λ other. check_agrees (λ c.
             locking.check_insert _ _ _ _ _ _ _ u.removes _ h
             (locking.insert_stands _ _ _ _ _ _ _ pred_in refl _ stays refl _ next
@@ -206,7 +206,7 @@ module _ (z : Size) (ns es : List ℕ) (who : ℕ) (w : Words) where
 
     -- ---- Link
     module _ (seven : w.phase.phase ≡ 7) where
-      link_read : decode w ≡ Decoded.Record (session_from w)
+      link_read : decode w ≡ Ok (session_from w)
       link_read =
           right_decodes w u.right (sym (front_all w.phase (omega arith) (omega arith)))
           (sym (back_all w.phase (omega arith) (omega arith) (omega arith)))
@@ -215,9 +215,9 @@ module _ (z : Size) (ns es : List ℕ) (who : ℕ) (w : Words) where
           → moved ns' (works c (named w)
           (Phase.Finish w.phase.a w.phase.b w.phase.c w.phase.d w.phase.e))
           ≡ link_step z ns c (named w) w.phase.a w.phase.b w.phase.c w.phase.d w.phase.e)
-          → Told (advanced ns' 8)
+          → Told (advanced ns' (Some 8))
       unfolding number_of
-      link_agrees ns' acts _ =
+      link_agrees ns' acts =
           agrees z ns es who w ns'
           (Phase.Link w.phase.a w.phase.b w.phase.c w.phase.d w.phase.e)
           (Phase.Finish w.phase.a w.phase.b w.phase.c w.phase.d w.phase.e)
@@ -262,54 +262,50 @@ module _ (z : Size) (ns es : List ℕ) (who : ℕ) (w : Words) where
 -- ---- where nothing is told, the nodes stay
 module _ (z : Size) (ns : List ℕ) where
   unfoldable Keeps : Advanced → Type 0
-  Keeps (advanced ns' f) = f ≡ 0 → ns' ≡ ns
+  Keeps (advanced ns' f) = f ≡ None → ns' ≡ ns
 
-  same_keeps : (f : ℕ) → Keeps (advanced ns f)
+  same_keeps : (f : Option ℕ) → Keeps (advanced ns f)
   unfolding Keeps
   same_keeps f h = refl
 
-  leads_keeps : (ns' : List ℕ) (f : ℕ) → 0 < f → Keeps (advanced ns' f)
+  leads_keeps : (ns' : List ℕ) (f : ℕ) → Keeps (advanced ns' (Some f))
   unfolding Keeps
-  leads_keeps ns' f some h = absurd (omega (arith, some, h))
+  leads_keeps ns' f h = cc
 
-  lock_keeps : (who n then : ℕ) → 0 < then → Keeps (lock_ahead z ns who n then)
+  lock_keeps : (who n then : ℕ) → Keeps (lock_ahead z ns who n then)
   unfolding lock_ahead
-  lock_keeps who n then some =
+  lock_keeps who n then =
       ltb_cases Keeps n z.nodes _ _
-      (λ _. cond_cases Keeps (free who (lock_at ns n)) _ _ (λ _. leads_keeps _ then some) (λ _. same_keeps 0))
-      (λ _. same_keeps 0)
+      (λ _. cond_cases Keeps (free who (lock_at ns n)) _ _ (λ _. leads_keeps _ then) (λ _. same_keeps None))
+      (λ _. same_keeps None)
 
   link_keeps : (removes : Bool) (pred node : ℕ) → Keeps (link_ahead z ns removes pred node)
   unfolding link_ahead
   link_keeps removes pred node =
       ltb_cases Keeps pred z.nodes _ _
       (λ _. cond_cases Keeps removes _ _
-      (λ _. ltb_cases Keeps node z.nodes _ _ (λ _. leads_keeps _ 8 (omega arith)) (λ _. same_keeps 0))
-      (λ _. leads_keeps _ 8 (omega arith)))
-      (λ _. same_keeps 0)
-
-  some_lock : (removes : Bool) → 0 < cond removes 3 4
-  some_lock true = omega arith
-  some_lock false = omega arith
+      (λ _. ltb_cases Keeps node z.nodes _ _ (λ _. leads_keeps _ 8) (λ _. same_keeps None))
+      (λ _. leads_keeps _ 8))
+      (λ _. same_keeps None)
 
   early_keeps : (who : ℕ) (removes : Bool) (sought phase pred curr : ℕ)
       → Keeps (early_ahead z ns who removes sought phase pred curr)
   unfolding early_ahead
   early_keeps who removes sought phase pred curr =
       eqb_cases Keeps phase 1 _ _ (λ _. same_keeps _) (λ _.
-      eqb_cases Keeps phase 2 _ _ (λ _. lock_keeps _ _ _ (some_lock removes)) (λ _.
-      eqb_cases Keeps phase 3 _ _ (λ _. lock_keeps _ _ 4 (omega arith)) (λ _.
-      eqb_cases Keeps phase 4 _ _ (λ _. same_keeps _) (λ _. same_keeps 0))))
+      eqb_cases Keeps phase 2 _ _ (λ _. lock_keeps _ _ _) (λ _.
+      eqb_cases Keeps phase 3 _ _ (λ _. lock_keeps _ _ 4) (λ _.
+      eqb_cases Keeps phase 4 _ _ (λ _. same_keeps _) (λ _. same_keeps None))))
 
   advance_keeps : (who : ℕ) (o : OpWords) (p : PhaseWords) → Keeps (advance_of z ns who o p)
   unfolding advance_of
   advance_keeps who o p =
       cond_cases Keeps (updates_of o) _ _
       (λ _. eqb_cases Keeps p.phase 7 _ _ (λ _. link_keeps _ _ _)
-      (λ _. cond_cases Keeps (early_zeros p) _ _ (λ _. early_keeps _ _ _ _ _ _) (λ _. same_keeps 0)))
-      (λ _. same_keeps 0)
+      (λ _. cond_cases Keeps (early_zeros p) _ _ (λ _. early_keeps _ _ _ _ _ _) (λ _. same_keeps None)))
+      (λ _. same_keeps None)
 
-  pub advance_none : (who : ℕ) (o : OpWords) (p : PhaseWords) (ns' : List ℕ) (f : ℕ)
-      → advanced ns' f ≡ advance_of z ns who o p → f ≡ 0 → ns' ≡ ns
+  pub advance_none : (who : ℕ) (o : OpWords) (p : PhaseWords) (ns' : List ℕ) (f : Option ℕ)
+      → advanced ns' f ≡ advance_of z ns who o p → f ≡ None → ns' ≡ ns
   unfolding Keeps
   advance_none who o p ns' f e = rw (← e) at (advance_keeps who o p)

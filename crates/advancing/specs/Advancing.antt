@@ -1,9 +1,9 @@
 -- The short ways of an update: what is tested of its words and of the nodes, and the number of the phase that the step
--- then leads to, 0 where a test fails.
+-- then leads to, None where a test fails.
 -- In order: an update's words; what is told; Walk that arrives; Lock; Check; Link; by the phase. `z` is the size, `ns`
 -- are the nodes. Phases by their numbers: 1 Walk, 2 Lock, 3 LockCurr, 4 Check, 5 Prepare, 7 Link, 8 Finish.
 -- Not here: that this is the step (proofs/Agrees.antt). Assumes nothing.
-use Rattle.std.specs.Prelude.{ℕ, ◌+◌, List, Bool, true, false, cond, ◌&&◌, ltb, eqb}
+use Rattle.std.specs.Prelude.{ℕ, ◌+◌, List, Bool, true, false, cond, ◌&&◌, ltb, eqb, Option, Some, None}
 use Rattle.nodes.specs.Nodes.{put_node, key_at, next_at, lock_at, removed_at}
 use Rattle.terms.specs.declared.Size.{Size}
 use Rattle.steps.specs.Steps.{free}
@@ -20,20 +20,20 @@ removing o = eqb o.kind 2
 
 -- ---- what is told: the nodes, and the phase's number
 pub data Advanced : Type 0 where
-  advanced : List ℕ → ℕ → Advanced
+  advanced : List ℕ → Option ℕ → Advanced
 
 abbrev pub still : List ℕ → Advanced
-still ns = advanced ns 0
+still ns = advanced ns None
 
 -- ---- Walk that arrives
-unfoldable pub arrive_ahead : Size → List ℕ → ℕ → ℕ → ℕ
-arrive_ahead z ns sought curr = cond (ltb curr z.nodes) (cond (ltb (key_at ns curr) sought) 0 2) 0
+unfoldable pub arrive_ahead : Size → List ℕ → ℕ → ℕ → Option ℕ
+arrive_ahead z ns sought curr = cond (ltb curr z.nodes) (cond (ltb (key_at ns curr) sought) None (Some 2)) None
 
 -- ---- Lock: the node is free, and the phase then
 unfoldable pub lock_ahead : Size → List ℕ → ℕ → ℕ → ℕ → Advanced
 lock_ahead z ns who n then =
     cond (ltb n z.nodes)
-    (cond (free who (lock_at ns n)) (advanced (put_node ns n 3 (who + 1)) then) (still ns))
+    (cond (free who (lock_at ns n)) (advanced (put_node ns n 3 (who + 1)) (Some then)) (still ns))
     (still ns)
 
 -- ---- Check: pred leads to curr; an insert's key is not there, a remove's is
@@ -41,22 +41,23 @@ unfoldable pub stands_of : Size → List ℕ → ℕ → ℕ → Bool
 stands_of z ns pred curr =
     ltb pred z.nodes && (ltb curr z.nodes && (eqb (removed_at ns pred) 0 && eqb (next_at ns pred) curr))
 
-unfoldable pub remove_ahead : List ℕ → ℕ → ℕ → ℕ
-remove_ahead ns sought curr = cond (eqb (removed_at ns curr) 0) (cond (eqb (key_at ns curr) sought) 5 0) 0
+unfoldable pub remove_ahead : List ℕ → ℕ → ℕ → Option ℕ
+remove_ahead ns sought curr =
+    cond (eqb (removed_at ns curr) 0) (cond (eqb (key_at ns curr) sought) (Some 5) None) None
 
-unfoldable pub check_ahead : Size → List ℕ → Bool → ℕ → ℕ → ℕ → ℕ
+unfoldable pub check_ahead : Size → List ℕ → Bool → ℕ → ℕ → ℕ → Option ℕ
 check_ahead z ns removes sought pred curr =
     cond (stands_of z ns pred curr)
-    (cond removes (remove_ahead ns sought curr) (cond (eqb (key_at ns curr) sought) 0 5))
-    0
+    (cond removes (remove_ahead ns sought curr) (cond (eqb (key_at ns curr) sought) None (Some 5)))
+    None
 
 -- ---- Link
 unfoldable pub link_ahead : Size → List ℕ → Bool → ℕ → ℕ → Advanced
 link_ahead z ns removes pred node =
     cond (ltb pred z.nodes)
     (cond removes
-    (cond (ltb node z.nodes) (advanced (put_node (put_node ns node 4 1) pred 2 (next_at ns node)) 8) (still ns))
-    (advanced (put_node ns pred 2 node) 8))
+    (cond (ltb node z.nodes) (advanced (put_node (put_node ns node 4 1) pred 2 (next_at ns node)) (Some 8)) (still ns))
+    (advanced (put_node ns pred 2 node) (Some 8)))
     (still ns)
 
 -- ---- by the phase

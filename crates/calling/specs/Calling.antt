@@ -4,7 +4,7 @@
 -- lent pairs, `out` the answer's words.
 -- Not here: the calls for C (crate ffi), when several steps end (crate several), where words lie (crate packing).
 -- Assumes nothing.
-use Rattle.std.specs.Prelude.{ℕ, List, Bool, cond, ◌&&◌, length, ltb, eqb}
+use Rattle.std.specs.Prelude.{ℕ, List, Bool, cond, ◌&&◌, length, ltb, eqb, Result, Ok, Err}
 use Rattle.terms.specs.declared.Size.{Size}
 use Rattle.terms.specs.declared.Counters.{Counters}
 use Rattle.terms.specs.declared.Answer.{Answer}
@@ -12,7 +12,7 @@ use Rattle.steps.specs.declared.Session.{Session}
 use Rattle.table.specs.Table.{store_of}
 use Rattle.several.specs.Several.{Gone, gone, several_of}
 use Rattle.register.specs.Register.{fits}
-use Rattle.encoding.specs.declared.Decoded.{Decoded}
+use Rattle.encoding.specs.declared.Malformed.{Malformed}
 use Rattle.encoding.specs.Encoding.{encode, decode}
 use Rattle.packing.specs.Packing.{counters_at, put_counters, record_at, put_record, refused_by, reply_of}
 use Rattle.exchange.specs.Exchange.{words_room, Told, told}
@@ -24,9 +24,9 @@ unfoldable pub lengths_fit : Size → List ℕ → List ℕ → List ℕ → Boo
 lengths_fit z ns es ws = fits z ns es && eqb (length ws) words_room
 
 -- then, words that are no record's
-abbrev pub on_decoded : {A : Type 0} → Decoded → (Session → A) → A → A
-on_decoded (Decoded.Record s) goes malformed = goes s
-on_decoded Decoded.Malformed goes malformed = malformed
+abbrev pub on_decoded : {A : Type 0} → Result Session Malformed → (Session → A) → A → A
+on_decoded (Ok s) goes malformed = goes s
+on_decoded (Err _) goes malformed = malformed
 
 -- ---- a refusal: its number, in the answer and returned
 abbrev pub refusal : List ℕ → ℕ → Told

@@ -7,6 +7,7 @@
 
 ghost use Rattle.std.specs.Prelude.{◌≡◌};
 ghost use Rattle.terms.specs.Terms.{small};
+ghost use Rattle.terms.specs.Terms.{refusal_number};
 ghost use Rattle.packing.specs.Packing.{refused_by, put_reply};
 ghost use Rattle.exchange.specs.Exchange.{told};
 ghost use Rattle.calling.specs.Calling.{
@@ -21,46 +22,38 @@ ghost use Rattle.calling.specs.Calling.{
   many_call,
 };
 
-use encoding::Decoded;
+use encoding::{Malformed, Words};
+use packing::Reply;
 use steps::Session;
-use terms::{Answer, Counters};
+use terms::{Answer, Counters, Refusal};
 
+#[tactic(auto, unfolding(crate::specs::Calling::lengths_fit, register::specs::Register::fits))]
 pub fn right_lengths(nodes: &[u32], entries: &[u32], words: &[u32]) -> bool
     ensures { result ≡ lengths_fit small nodes.now entries.now words.now }
 {
-    if nodes.len() == 3072 {
-        if entries.len() == 8192 {
-            return words.len() == 147;
-        }
-        return false;
-    }
-    false
+    nodes.len() == 3072 && entries.len() == 8192 && words.len() == 147
 }
 
-pub fn refuse(answer: &mut [u32], number: u32) -> u32
-    ensures { told answer.new result ≡ refusal answer.old number }
+#[tactic(auto, unfolding(packing::specs::Packing::number_of))]
+pub fn refuse(answer: &mut [u32], why: Refusal) -> u32
+    ensures { told answer.new result ≡ refusal answer.old (refusal_number why) }
 {
-    let reply = packing::refused(number);
-    packing::put_reply(answer, reply);
-    number
+    exchange::give(answer, Reply::from(why))
 }
 
 // Puts an answer, and returns what the call returns.
 pub fn tell(answer: &mut [u32], given: Answer) -> u32
     ensures { told answer.new result ≡ answered answer.old given }
 {
-    let reply = packing::say(given);
-    packing::put_reply(answer, reply);
-    packing::number_in(reply)
+    exchange::give(answer, Reply::from(given))
 }
 
 // Puts what a step returns beside the tables and the answer.
 fn keep(words: &mut [u32], who: u32, c: Counters, s: Session)
     ensures { words.new ≡ kept words.old who c s }
 {
-    let w = encoding::encode_session(s);
     packing::put_counters(words, c);
-    packing::put_record(words, who, w);
+    packing::put_record(words, who, Words::from(s));
 }
 
 // Puts how many pairs are filled and how many steps were made behind an answer, and returns what the call returns.
@@ -72,14 +65,15 @@ fn count_up(answer: &mut [u32], number: u32, count: u32, made: u32) -> u32
     number
 }
 
-fn stand_still(answer: &mut [u32], number: u32) -> u32
+fn stand_still(answer: &mut [u32], why: Refusal) -> u32
     ensures { told answer.new result
-        ≡ told (tally (put_reply answer.old (refused_by number)) 0 0) number }
+        ≡ told (tally (put_reply answer.old (refused_by (refusal_number why))) 0 0) (refusal_number why) }
 {
-    let n = refuse(answer, number);
+    let n = refuse(answer, why);
     count_up(answer, n, 0, 0)
 }
 
+#[tactic(auto, unfolding(crate::specs::Calling::steps_record))]
 fn steps_record(
     nodes: &mut [u32],
     entries: &mut [u32],
@@ -98,14 +92,12 @@ fn steps_record(
     let c = packing::counters_at(words);
     let out = several::steps(nodes, entries, pairs, c, who, s, limit);
     let last = out.last;
-    let counters = last.counters;
-    let session = last.session;
-    let given = last.answer;
-    keep(words, who, counters, session);
-    let n = tell(answer, given);
+    keep(words, who, last.counters, last.session);
+    let n = tell(answer, last.answer);
     count_up(answer, n, last.count, out.made)
 }
 
+#[tactic(auto, unfolding(crate::specs::Calling::steps_session))]
 fn steps_session(
     nodes: &mut [u32],
     entries: &mut [u32],
@@ -120,14 +112,14 @@ fn steps_session(
         ≡ steps_session small nodes.old entries.old words.old pairs.old
         answer.old who limit }
 {
-    let w = packing::record_at(words, who);
-    match encoding::decode_words(w) {
-        Decoded::Record(s) => steps_record(nodes, entries, words, pairs, answer, who, limit, s),
-        Decoded::Malformed => stand_still(answer, 8),
+    match Session::try_from(packing::record_at(words, who)) {
+        Ok(s) => steps_record(nodes, entries, words, pairs, answer, who, limit, s),
+        Err(Malformed) => stand_still(answer, Refusal::Damaged),
     }
 }
 
 // The checks, and the steps on the record decoded.
+#[tactic(auto, unfolding(crate::specs::Calling::many_call))]
 pub fn many(
     nodes: &mut [u32],
     entries: &mut [u32],
@@ -142,11 +134,11 @@ pub fn many(
         ≡ many_call small nodes.old entries.old words.old pairs.old
         answer.old who limit }
 {
-    if right_lengths(nodes, entries, words) {
-        if 16 <= who {
-            return stand_still(answer, 1);
-        }
-        return steps_session(nodes, entries, words, pairs, answer, who, limit);
+    if !right_lengths(nodes, entries, words) {
+        return stand_still(answer, Refusal::BadTable);
     }
-    stand_still(answer, 7)
+    if 16 <= who {
+        return stand_still(answer, Refusal::BadSession);
+    }
+    steps_session(nodes, entries, words, pairs, answer, who, limit)
 }

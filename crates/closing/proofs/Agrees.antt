@@ -5,6 +5,7 @@ use Prim.Native.Nat.{ℕ, ◌+◌, ◌≤◌, ◌<◌}
 use mathlib.Core.Path.{◌≡◌, refl, sym, ◌∙◌}
 use mathlib.Core.List.{List}
 use mathlib.Core.Bool.{Bool, true, false, cond, ◌&&◌}
+use Rattle.std.specs.Prelude.{Option, Some, None, Ok}
 use native.Mathlib.Omega.{arith}
 use lib.Dec.{ltb, eqb}
 use borrow.Author.Tests.{ltb-true, eqb-true}
@@ -21,7 +22,6 @@ use Rattle.finishing.proofs.Ways.{numbers}
 use Rattle.encoding.specs.declared.OpWords.{OpWords}
 use Rattle.encoding.specs.declared.PhaseWords.{PhaseWords}
 use Rattle.encoding.specs.declared.Words.{Words}
-use Rattle.encoding.specs.declared.Decoded.{Decoded}
 use Rattle.encoding.specs.Encoding.{phase_from, session_from, back_right, decode}
 use Rattle.encoding.proofs.Ways.{is_updating, is_number, is_finish, front_all, back_number, back_all}
 use Rattle.encoding.proofs.Trip.{right_decodes}
@@ -44,17 +44,18 @@ module _ (z : Size) (ns es : List ℕ) (c : Counters) (who : ℕ) (w : Words) wh
       }
 
   -- ---- Number
-  unfoldable Numbers : ℕ → Type 0
-  Numbers n = (n ≡ 0 → ⊥) → (n ≡ c.stamp + 1) × Acts z ns es c who w ns es (numbered c w)
+  unfoldable Numbers : Option ℕ → Type 0
+  Numbers None = Unit {0}
+  Numbers (Some n) = (n ≡ c.stamp + 1) × Acts z ns es c who w ns es (numbered c w)
 
-  none_numbers : Numbers 0
+  none_numbers : Numbers None
   unfolding Numbers
-  none_numbers some = absurd (some refl)
+  none_numbers = tt
 
   number_acts : w.phase.phase ≡ 6 → eqb w.phase.e 0 ≡ true → Update w → c.stamp < z.updates
-      → Numbers (c.stamp + 1)
+      → Numbers (Some (c.stamp + 1))
   unfolding Numbers
-  number_acts six unused u few _ = (
+  number_acts six unused u few = (
     refl,
     acts_from u (Phase.Number w.phase.a w.phase.b w.phase.c w.phase.d) ns es (numbered c w)
         (is_updating w.phase _ (omega arith) (omega arith) (omega arith) (is_number _ _ _ _ _ _ six)) refl
@@ -71,7 +72,7 @@ module _ (z : Size) (ns es : List ℕ) (c : Counters) (who : ℕ) (w : Words) wh
       ltb_cases Numbers c.stamp z.updates _ _ (number_acts six unused (update_words w updates))
       (λ _. none_numbers)) (λ _. none_numbers)) (λ _. none_numbers)) (λ _. none_numbers)
 
-  pub number_is_step : (n : ℕ) → n ≡ number_ahead z c.stamp w.op w.phase → (n ≡ 0 → ⊥)
+  pub number_is_step : (n : ℕ) → Some n ≡ number_ahead z c.stamp w.op w.phase
       → (n ≡ c.stamp + 1) × Acts z ns es c who w ns es (numbered c w)
   unfolding Numbers
   number_is_step n e = rw (← e) at number_told

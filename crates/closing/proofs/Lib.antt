@@ -1,3 +1,2 @@
--- Each way through the short ways' functions; what a short way tells is the step's outcome.
-pub mod Ways
+-- What a short way tells is the step's outcome.
 pub mod Agrees

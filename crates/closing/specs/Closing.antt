@@ -1,8 +1,8 @@
 -- The short ways of an update's last steps: what is tested of its words and of the tables, and what is then told.
--- In order: Number (phase 6), which tells the update's number or 0; Finish (phase 8), which tells whether it is one.
+-- In order: Number (phase 6), which tells the update's number; Finish (phase 8), which tells whether it is one.
 -- `z` is the size, `ns` and `es` are the tables, `o` and `p` the words of the operation and of the phase.
 -- Not here: that this is the step (proofs/Agrees.antt). Assumes nothing.
-use Rattle.std.specs.Prelude.{ℕ, ◌+◌, List, Bool, true, false, cond, ◌&&◌, ltb, eqb}
+use Rattle.std.specs.Prelude.{ℕ, ◌+◌, List, Bool, true, false, cond, ◌&&◌, ltb, eqb, Option, Some, None}
 use Rattle.bundle.specs.Bundle.{finish_of}
 use Rattle.nodes.specs.Nodes.{unlocked_both}
 use Rattle.terms.specs.declared.Size.{Size}
@@ -11,11 +11,11 @@ use Rattle.encoding.specs.declared.PhaseWords.{PhaseWords}
 use Rattle.advancing.specs.Advancing.{updates_of, removing}
 
 -- ---- Number
-unfoldable pub number_ahead : Size → ℕ → OpWords → PhaseWords → ℕ
+unfoldable pub number_ahead : Size → ℕ → OpWords → PhaseWords → Option ℕ
 number_ahead z stamp o p =
     cond (eqb p.phase 6)
-    (cond (eqb p.e 0) (cond (updates_of o) (cond (ltb stamp z.updates) (stamp + 1) 0) 0) 0)
-    0
+    (cond (eqb p.e 0) (cond (updates_of o) (cond (ltb stamp z.updates) (Some (stamp + 1)) None) None) None)
+    None
 
 -- ---- Finish: both entries and the nodes that are locked are in the tables
 unfoldable pub usable_ahead : Size → Bool → PhaseWords → Bool

@@ -1,6 +1,6 @@
 -- What it is for a short way of an update's last steps to tell the step.
 -- In order: a step that acts; Number; Finish. Not here: that they do (proofs/Agrees.antt). Assumes nothing.
-use Rattle.std.specs.Prelude.{ℕ, ◌+◌, ◌≡◌, List, Bool, true, cond}
+use Rattle.std.specs.Prelude.{ℕ, ◌+◌, ◌≡◌, List, Bool, true, cond, Ok}
 use Rattle.terms.specs.declared.Size.{Size}
 use Rattle.terms.specs.declared.Counters.{Counters}
 use Rattle.terms.specs.declared.Answer.{Answer}
@@ -8,7 +8,6 @@ use Rattle.steps.specs.declared.Phase.{Phase}
 use Rattle.steps.specs.declared.Stepped.{Stepped}
 use Rattle.steps.specs.Steps.{done, busy_of, works, ends, raised, act_step}
 use Rattle.encoding.specs.declared.Words.{Words}
-use Rattle.encoding.specs.declared.Decoded.{Decoded}
 use Rattle.encoding.specs.Encoding.{phase_from, session_from, decode}
 use Rattle.shortly.specs.Told.{named}
 use Rattle.advancing.specs.Advancing.{removing}
@@ -17,7 +16,7 @@ use Rattle.closing.specs.Closing.{Finished, finished}
 -- ---- the words are a record's that is under way, and its step leaves the tables ns' and es' and gives r
 pub record Acts (z : Size) (ns es : List ℕ) (c : Counters) (who : ℕ) (w : Words) (ns' es' : List ℕ) (r : Stepped)
     : Type 0 where
-  pub read : decode w ≡ Decoded.Record (session_from w)
+  pub read : decode w ≡ Ok (session_from w)
   pub busy : busy_of (session_from w) ≡ true
   pub acts : act_step z ns es c who (named w) (phase_from w.phase) ≡ done ns' es' r
 

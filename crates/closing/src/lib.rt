@@ -14,62 +14,41 @@ ghost use Rattle.closing.specs.Told.{finish_answer};
 use encoding::{OpWords, PhaseWords};
 use terms::Answer;
 
-// Tells the update's number, or 0.
-pub fn number(stamp: u32, o: OpWords, p: PhaseWords) -> u32
+// Tells the update's number.
+#[tactic(auto, unfolding(crate::specs::Closing::number_ahead))]
+pub fn number(stamp: u32, o: OpWords, p: PhaseWords) -> Option<u32>
     ensures { result ≡ number_ahead small stamp o p }
 {
-    if p.phase != 6 {
-        return 0;
+    if p.phase == 6 && p.e == 0 && advancing::updates(o) && stamp < 1020 {
+        return Some(stamp + 1);
     }
-    if p.e != 0 {
-        return 0;
-    }
-    if advancing::updates(o) {
-        if 1020 <= stamp {
-            return 0;
-        }
-        return stamp + 1;
-    }
-    0
+    None
 }
 
+#[tactic(auto, unfolding(crate::specs::Closing::usable_ahead))]
 fn usable(removes: bool, p: PhaseWords) -> bool
     ensures { result ≡ usable_ahead small removes p }
 {
-    if 2048 <= p.c {
-        return false;
-    }
-    if 2048 <= p.d {
-        return false;
-    }
-    if 512 <= p.a {
-        return false;
-    }
-    if removes {
-        return p.b < 512;
-    }
-    true
+    p.c < 2048 && p.d < 2048 && p.a < 512 && (!removes || p.b < 512)
 }
 
 // Tells whether it is one, and then has finished both entries and unlocked.
+#[tactic(auto, unfolding(crate::specs::Closing::finish_ahead))]
 pub fn finish(nodes: &mut [u32], entries: &mut [u32], o: OpWords, p: PhaseWords) -> bool
     ensures { finished nodes.new entries.new result
         ≡ finish_ahead small nodes.old entries.old o p }
 {
-    if p.phase != 8 {
+    if p.phase != 8 || !advancing::updates(o) {
         return false;
     }
-    if advancing::updates(o) {
-        let removes = o.kind == 2;
-        if usable(removes, p) {
-            bundle::finish(entries, p.c, p.e);
-            bundle::finish(entries, p.d, p.e);
-            nodes::unlock_both(nodes, p.a, p.b, removes);
-            return true;
-        }
+    let removes = o.kind == 2;
+    if !usable(removes, p) {
         return false;
     }
-    false
+    bundle::finish(entries, p.c, p.e);
+    bundle::finish(entries, p.d, p.e);
+    nodes::unlock_both(nodes, p.a, p.b, removes);
+    true
 }
 
 // What an update that is finished answers.
@@ -77,7 +56,8 @@ pub fn answer(removes: bool, number: u32) -> Answer
     ensures { result ≡ finish_answer removes number }
 {
     if removes {
-        return Answer::Removed(number);
+        Answer::Removed(number)
+    } else {
+        Answer::Inserted(number)
     }
-    Answer::Inserted(number)
 }

@@ -12,7 +12,7 @@ use Rattle.steps.specs.declared.Session.{Session}
 use Rattle.steps.specs.declared.Stepped.{Stepped}
 use Rattle.steps.specs.Steps.{done}
 use Rattle.demands.specs.Demands.{Kept}
-use Rattle.encoding.specs.declared.Decoded.{Decoded}
+use Rattle.std.specs.Prelude.{Ok}
 use Rattle.encoding.specs.Encoding.{decode}
 use Rattle.packing.specs.Packing.{counters_at, record_at, reply_of, number_of}
 use Rattle.several.specs.declared.Said.{Said}
@@ -50,7 +50,7 @@ refused_says (Answer.End t m) n some e = refl
 refused_says (Answer.Refused why) n some e = refl
 
 -- ---- what the register keeps, the slices keep: the words put back are those that were there
-pub kept_unchanged : (ws : List ℕ) (who : ℕ) (s : Session) → decode (record_at ws who) ≡ Decoded.Record s
+pub kept_unchanged : (ws : List ℕ) (who : ℕ) (s : Session) → decode (record_at ws who) ≡ Ok s
     → (ns es ns₁ es₁ ns' es' ws' : List ℕ) (r : Stepped) → Kept ns es (counters_at ws) s (done ns₁ es₁ r) → ns' ≡ ns₁
     → es' ≡ es₁ → ws' ≡ kept ws who r.counters r.session → Unchanged ns es ws ns' es' ws'
 kept_unchanged ws who s read ns es ns₁ es₁ ns' es' ws' r K nodes entries words = record {

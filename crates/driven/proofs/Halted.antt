@@ -21,7 +21,8 @@ use Rattle.steps.specs.Steps.{Done, done}
 use Rattle.register.specs.Register.{step_of}
 use Rattle.demands.specs.Demands.{answer_of, Kept}
 use Rattle.demands.proofs.Demand1.{demand_1}
-use Rattle.encoding.specs.declared.Decoded.{Decoded}
+use Rattle.std.specs.Prelude.{Result, Ok, Err}
+use Rattle.encoding.specs.declared.Malformed.{Malformed}
 use Rattle.encoding.specs.Encoding.{decode}
 use Rattle.packing.specs.declared.Reply.{Reply}
 use Rattle.packing.specs.Packing.{counters_at, record_at, reply_of, number_of, put_reply}
@@ -99,7 +100,7 @@ module _ (z : Size) (ns es ws ps out : List ℕ) (who limit n : ℕ) (some : n �
   same out₁ m told = (record { nodes = cc; entries = cc; words = cc }, cc)
 
   -- ---- that step, refused
-  module _ (s : Session) (read : decode (record_at ws who) ≡ Decoded.Record s) where
+  module _ (s : Session) (read : decode (record_at ws who) ≡ Ok s) where
     one_handed : (ns₁ es₁ : List ℕ) (r : Stepped) (h : Handed) → hand_out ps 0 (said_of r.answer) ≡ h
         → (Refuses n r.answer → Kept ns es (counters_at ws) s (done ns₁ es₁ r))
         → Stays (after_steps ws out who (stops 1 (turn_with ns₁ es₁ r (said_of r.answer) h)))
@@ -136,12 +137,12 @@ module _ (z : Size) (ns es ws ps out : List ℕ) (who limit n : ℕ) (some : n �
         one_turn (told ∙ ap (after_steps ws out who) one)
 
   -- ---- the call
-  steps_decoded : length out ≡ 5 → (d : Decoded) → decode (record_at ws who) ≡ d
+  steps_decoded : length out ≡ 5 → (d : Result Session Malformed) → decode (record_at ws who) ≡ d
       → Stays (on_decoded d (steps_record z ns es ws ps out who limit) (stands_still ns es ws ps out 8))
   unfolding steps_record
-  steps_decoded five (Decoded.Record s) read =
+  steps_decoded five (Ok s) read =
       steps_by s read five (several_of z ns es ps (counters_at ws) who s limit) refl
-  steps_decoded five Decoded.Malformed read = same _ 8
+  steps_decoded five (Err _) read = same _ 8
 
   steps_five : length out ≡ 5 → Stays (steps_call z ns es ws ps out who limit)
   unfolding steps_call steps_session

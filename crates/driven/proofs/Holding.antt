@@ -20,7 +20,7 @@ use Rattle.steps.specs.declared.Session.{Session}
 use Rattle.steps.specs.Steps.{done, idle, refuses}
 use Rattle.register.specs.Register.{fits, keeps, start_of, step_of}
 use Rattle.reached.specs.Reached.{State, record_of}
-use Rattle.encoding.specs.declared.Decoded.{Decoded}
+use Rattle.std.specs.Prelude.{Ok}
 use Rattle.encoding.specs.Encoding.{encode, op_from, decode}
 use Rattle.encoding.proofs.Trip.{decode_encode}
 use Rattle.packing.specs.Packing.{counters_at, put_counters, record_at}
@@ -41,7 +41,7 @@ module _ (ns es ws : List ℕ) (σ : State) (H : Holds ns es ws σ) where
         ∙ ap encode (sym (get_or-eq_default σ.register.sessions idle {n = who} (omega (arith, H.sixteen))))
   ]
 
-  pub decoded : (who : ℕ) → decode (record_at ws who) ≡ Decoded.Record (record_of σ who)
+  pub decoded : (who : ℕ) → decode (record_at ws who) ≡ Ok (record_of σ who)
   decoded who = ap decode (held who) ∙ decode_encode (record_of σ who)
 
   -- ---- the slices with another record
@@ -80,7 +80,7 @@ module _ (ns es ws : List ℕ) (σ : State) (H : Holds ns es ws σ) where
 
 -- ---- the library's step and start: what is refused before the record is read, the register would refuse as well
 module _ (ns es ws out : List ℕ) (who : ℕ) (s : Session) (three : length out ≡ 3) (long : length ws ≡ 147)
-    (read : decode (record_at ws who) ≡ Decoded.Record s) where
+    (read : decode (record_at ws who) ≡ Ok s) where
   module _ (op : Op) where
     start_table : fits small ns es ≡ false → start_of small ns es who s op ≡ keeps s Refusal.BadTable
     unfolding start_of

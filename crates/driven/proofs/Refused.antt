@@ -27,7 +27,8 @@ use Rattle.loading.specs.Filing.{used}
 use Rattle.loading.specs.Loading.{loaded_tables, on_reading, load_of}
 use Rattle.loading.specs.Loading.{done as loads}
 use Rattle.loading.specs.declared.Loaded.{Loaded}
-use Rattle.encoding.specs.declared.Decoded.{Decoded}
+use Rattle.std.specs.Prelude.{Result, Ok, Err}
+use Rattle.encoding.specs.declared.Malformed.{Malformed}
 use Rattle.encoding.specs.Encoding.{encode, op_from, decode}
 use Rattle.packing.specs.Packing.{counters_at, record_at, put_record, reply_of, number_of}
 use Rattle.exchange.specs.Exchange.{Left, left, stays, after_read, read_loaded, read_call}
@@ -48,7 +49,7 @@ module _ (z : Size) (ns es ws out : List ℕ) (who n : ℕ) (some : n ≢ 0) whe
     abbrev Leaves : Heard → Type 0
     Leaves r = heard ws' out' n ≡ r → ws' ≡ ws
 
-    start_record_lem : (s : Session) → decode (record_at ws who) ≡ Decoded.Record s
+    start_record_lem : (s : Session) → decode (record_at ws who) ≡ Ok s
         → Leaves (start_record z ns es ws out who op s)
     unfolding start_record
     start_record_lem s read told =
@@ -59,10 +60,10 @@ module _ (z : Size) (ns es ws out : List ℕ) (who n : ℕ) (some : n ≢ 0) whe
         let same = ((demand_1 z).start_leaves ns es who s op).refused_keeps n refused in
         words ∙ ap (λ x. put_record ws who (encode x)) same ∙ record_kept ws who s read
 
-    start_decoded : (d : Decoded) → decode (record_at ws who) ≡ d
+    start_decoded : (d : Result Session Malformed) → decode (record_at ws who) ≡ d
         → Leaves (on_decoded d (start_record z ns es ws out who op) (deaf ws out 8))
-    start_decoded (Decoded.Record s) read told = start_record_lem s read told
-    start_decoded Decoded.Malformed read told = cc
+    start_decoded (Ok s) read told = start_record_lem s read told
+    start_decoded (Err _) read told = cc
 
   refused_start : (ws' out' : List ℕ) (kind first second : ℕ)
       → heard ws' out' n ≡ start_call z ns es ws out who kind first second → ws' ≡ ws
@@ -78,14 +79,14 @@ module _ (z : Size) (ns es ws out : List ℕ) (who n : ℕ) (some : n ≢ 0) whe
     abbrev Stays : Left → Type 0
     Stays r = left ns' es' ws' out' n ≡ r → Unchanged ns es ws ns' es' ws'
 
-    step_done : (s : Session) → decode (record_at ws who) ≡ Decoded.Record s → (d : Done)
+    step_done : (s : Session) → decode (record_at ws who) ≡ Ok s → (d : Done)
         → (Refuses n (answer_of d) → Kept ns es (counters_at ws) s d) → Stays (after_step ws out who d)
     step_done s read (done ns₁ es₁ r) keeps told =
         let number : n ≡ number_of (reply_of r.answer) = cc in
         let K = keeps (refuses_number r.answer n some number) in
         kept_unchanged ws who s read ns es ns₁ es₁ ns' es' ws' r K (cc) (cc) (cc)
 
-    step_record_lem : (s : Session) → decode (record_at ws who) ≡ Decoded.Record s
+    step_record_lem : (s : Session) → decode (record_at ws who) ≡ Ok s
         → Stays (step_record z ns es ws out who s)
     unfolding step_record
     step_record_lem s read =
@@ -95,10 +96,10 @@ module _ (z : Size) (ns es ws out : List ℕ) (who n : ℕ) (some : n ≢ 0) whe
     same : (out₁ : List ℕ) (m : ℕ) → Stays (left ns es ws out₁ m)
     same out₁ m told = record { nodes = cc; entries = cc; words = cc }
 
-    step_decoded : (d : Decoded) → decode (record_at ws who) ≡ d
+    step_decoded : (d : Result Session Malformed) → decode (record_at ws who) ≡ d
         → Stays (on_decoded d (step_record z ns es ws out who) (stays ns es ws out 8))
-    step_decoded (Decoded.Record s) read = step_record_lem s read
-    step_decoded Decoded.Malformed read = same _ 8
+    step_decoded (Ok s) read = step_record_lem s read
+    step_decoded (Err _) read = same _ 8
 
     refused_step : Stays (step_call z ns es ws out who)
     unfolding step_call step_session

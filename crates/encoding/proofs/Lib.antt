@@ -1,3 +1,3 @@
--- Each way through the encoding's functions; the round trip.
+-- What words stand for; the round trip.
 pub mod Ways
 pub mod Trip

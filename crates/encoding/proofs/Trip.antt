@@ -5,6 +5,7 @@
 use Prim.Native.Nat.{ℕ}
 use mathlib.Core.Path.{◌≡◌, refl, sym, ap, ◌∙◌}
 use mathlib.Core.Bool.{Bool, true, false, cond, ◌&&◌}
+use Rattle.std.specs.Prelude.{Result, Ok, Err}
 use lib.Dec.{eqb}
 use native.Mathlib.Omega.{arith}
 use borrow.Author.Tests.{eqb-true}
@@ -14,10 +15,10 @@ use Rattle.steps.specs.declared.Session.{Session}
 use Rattle.encoding.specs.declared.OpWords.{OpWords}
 use Rattle.encoding.specs.declared.PhaseWords.{PhaseWords}
 use Rattle.encoding.specs.declared.Words.{Words}
-use Rattle.encoding.specs.declared.Decoded.{Decoded}
+use Rattle.encoding.specs.declared.Malformed.{Malformed}
 use Rattle.encoding.specs.Encoding.{kind_with, phase_with, op_words, phase_words, encode, op_from, walking_from}
 use Rattle.encoding.specs.Encoding.{updating_from, reading_from, phase_from, session_from, same_three, op_right}
-use Rattle.encoding.specs.Encoding.{front_right, back_right, decode}
+use Rattle.encoding.specs.Encoding.{front_right, back_right, malformed, decode}
 use Rattle.encoding.proofs.Ways.{three_self}
 
 -- ---- words that test as the same are the same
@@ -97,15 +98,15 @@ back_self : (p : Phase) → back_right (phase_words p) ≡ true
 unfolding back_right
 back_self p = rw (phase_back p) (three_self _ _ _)
 
-pub decode_encode : (s : Session) → decode (encode s) ≡ Decoded.Record s
+pub decode_encode : (s : Session) → decode (encode s) ≡ Ok s
 unfolding decode
 decode_encode s =
-    rw (op_self s.op, front_self s.phase, back_self s.phase) (ap Decoded.Record (session_back s))
+    rw (op_self s.op, front_self s.phase, back_self s.phase) (ap Ok (session_back s))
 
 -- right words decode to what they stand for, and that encodes to them
 module _ (w : Words) (op : op_right w.op ≡ true) (front : front_right w.phase ≡ true)
     (back : back_right w.phase ≡ true) where
-  pub right_decodes : decode w ≡ Decoded.Record (session_from w)
+  pub right_decodes : decode w ≡ Ok (session_from w)
   unfolding decode
   right_decodes = rw (op, front, back)
 
@@ -113,18 +114,18 @@ module _ (w : Words) (op : op_right w.op ≡ true) (front : front_right w.phase 
   right_encodes = rw (op_right_lem w.op op, phase_right w.phase front back)
 
 tested : (p q r : Bool) (w : Words) (x s : Session) → (p ≡ true → q ≡ true → r ≡ true → encode x ≡ w)
-    → cond (p && (q && r)) (Decoded.Record x) Decoded.Malformed ≡ Decoded.Record s → encode s ≡ w
+    → cond (p && (q && r)) (Ok x) malformed ≡ Ok s → encode s ≡ w
 tested true true true w x s h e = let z : s ≡ x = cc in ap encode z ∙ h refl refl refl
 tested true true false w x s h e = cc
 tested true false r w x s h e = cc
 tested false q r w x s h e = cc
 
-pub encode_decode : (w : Words) (s : Session) → decode w ≡ Decoded.Record s → encode s ≡ w
+pub encode_decode : (w : Words) (s : Session) → decode w ≡ Ok s → encode s ≡ w
 unfolding decode
 encode_decode w s e =
     tested (op_right w.op) (front_right w.phase) (back_right w.phase) w (session_from w) s (right_encodes w) e
 
-pub malformed_is_no_record : (w : Words) (s : Session) → decode w ≡ Decoded.Malformed → encode s ≡ w → ⊥
+pub malformed_is_no_record : (w : Words) (s : Session) → decode w ≡ malformed → encode s ≡ w → ⊥
 malformed_is_no_record w s e h =
-    let r : decode w ≡ Decoded.Record s = ap decode (sym h) ∙ decode_encode s in
+    let r : decode w ≡ Ok s = ap decode (sym h) ∙ decode_encode s in
     let z : ◌≡◌ {A = ℕ} 0 1 = cc in omega arith

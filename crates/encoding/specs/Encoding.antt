@@ -5,14 +5,14 @@
 -- curr, 4 Check, 5 Prepare, 6 Number, 7 Link, 8 Finish, 9 has's Follow, 10 Fix, 11 Follow, 12 Hand. Unused words are
 -- 0.
 -- Not here: where the words lie (crate packing). Assumes nothing.
-use Rattle.std.specs.Prelude.{ℕ, Bool, cond, ◌&&◌, eqb, leb}
+use Rattle.std.specs.Prelude.{ℕ, Bool, cond, ◌&&◌, eqb, leb, Result, Ok, Err}
 use Rattle.terms.specs.declared.Op.{Op}
 use Rattle.steps.specs.declared.Phase.{Phase}
 use Rattle.steps.specs.declared.Session.{Session}
 use Rattle.encoding.specs.declared.OpWords.{OpWords}
 use Rattle.encoding.specs.declared.PhaseWords.{PhaseWords}
 use Rattle.encoding.specs.declared.Words.{Words}
-use Rattle.encoding.specs.declared.Decoded.{Decoded}
+use Rattle.encoding.specs.declared.Malformed.{Malformed}
 
 -- ---- the words of a record
 abbrev pub kind_with : ℕ → ℕ → ℕ → OpWords
@@ -108,8 +108,11 @@ unfoldable pub back_right : PhaseWords → Bool
 back_right w = same_back w (phase_words (phase_from w))
 
 -- ---- decoding: the record that encodes to these words; words that none encodes to are malformed
-unfoldable pub decode : Words → Decoded
+abbrev pub malformed : Result Session Malformed
+malformed = Err (record {})
+
+unfoldable pub decode : Words → Result Session Malformed
 decode w =
     cond (op_right w.op && (front_right w.phase && back_right w.phase))
-    (Decoded.Record (session_from w))
-    Decoded.Malformed
+    (Ok (session_from w))
+    malformed

@@ -10,9 +10,6 @@ ghost use Rattle.encoding.specs.Encoding.{
   phase_words,
   encode,
   op_from,
-  walking_from,
-  updating_from,
-  reading_from,
   phase_from,
   session_from,
   same_three,
@@ -25,16 +22,16 @@ ghost use Rattle.encoding.specs.Encoding.{
 use steps::{Phase, Session};
 use terms::Op;
 
-// An operation: its kind and its two numbers.
-#[derive(Clone, Copy)]
+// An operation: its kind and its two numbers. A number that it does not use is 0.
+#[derive(Clone, Copy, Default)]
 pub struct OpWords {
     pub kind: u32,
     pub first: u32,
     pub second: u32,
 }
 
-// A phase: its number in document 01's order, and its own five numbers.
-#[derive(Clone, Copy)]
+// A phase: its number in document 01's order, and its own five numbers. Those that it does not use are 0.
+#[derive(Clone, Copy, Default)]
 pub struct PhaseWords {
     pub phase: u32,
     pub a: u32,
@@ -44,395 +41,315 @@ pub struct PhaseWords {
     pub e: u32,
 }
 
-#[derive(Clone, Copy)]
+#[derive(Clone, Copy, Default)]
 pub struct Words {
     pub op: OpWords,
     pub phase: PhaseWords,
 }
 
+// What words are that no record encodes to.
 #[derive(Clone, Copy)]
-pub enum Decoded {
-    Record(Session),
-    Malformed,
-}
+pub struct Malformed;
 
-fn op_words(op: Op) -> OpWords
-    ensures { result ≡ op_words op }
-{
-    match op {
-        Op::None => OpWords {
-            kind: 0,
-            first: 0,
-            second: 0,
-        },
-        Op::Insert(key, value) => OpWords {
-            kind: 1,
-            first: key,
-            second: value,
-        },
-        Op::Remove(key) => OpWords {
-            kind: 2,
-            first: key,
-            second: 0,
-        },
-        Op::Has(key) => OpWords {
-            kind: 3,
-            first: key,
-            second: 0,
-        },
-        Op::Range(low, high) => OpWords {
-            kind: 4,
-            first: low,
-            second: high,
-        },
+impl From<Op> for OpWords {
+    ghost from_gives = { λ op w. w ≡ op_words op };
+
+    fn from(op: Op) -> Self {
+        match op {
+            Op::None => OpWords::default(),
+            Op::Insert(first, second) => OpWords {
+                kind: 1,
+                first,
+                second,
+            },
+            Op::Remove(first) => OpWords {
+                kind: 2,
+                first,
+                ..OpWords::default()
+            },
+            Op::Has(first) => OpWords {
+                kind: 3,
+                first,
+                ..OpWords::default()
+            },
+            Op::Range(first, second) => OpWords {
+                kind: 4,
+                first,
+                second,
+            },
+        }
     }
 }
 
-fn phase_words(phase: Phase) -> PhaseWords
-    ensures { result ≡ phase_words phase }
-{
-    match phase {
-        Phase::Idle => PhaseWords {
-            phase: 0,
-            a: 0,
-            b: 0,
-            c: 0,
-            d: 0,
-            e: 0,
-        },
-        Phase::Walk { pred, curr } => PhaseWords {
-            phase: 1,
-            a: pred,
-            b: curr,
-            c: 0,
-            d: 0,
-            e: 0,
-        },
-        Phase::Lock { pred, curr } => PhaseWords {
-            phase: 2,
-            a: pred,
-            b: curr,
-            c: 0,
-            d: 0,
-            e: 0,
-        },
-        Phase::LockCurr { pred, curr } => PhaseWords {
-            phase: 3,
-            a: pred,
-            b: curr,
-            c: 0,
-            d: 0,
-            e: 0,
-        },
-        Phase::Check { pred, curr } => PhaseWords {
-            phase: 4,
-            a: pred,
-            b: curr,
-            c: 0,
-            d: 0,
-            e: 0,
-        },
-        Phase::Prepare { pred, curr } => PhaseWords {
-            phase: 5,
-            a: pred,
-            b: curr,
-            c: 0,
-            d: 0,
-            e: 0,
-        },
-        Phase::Number {
-            pred,
-            node,
-            lower,
-            upper,
-        } => PhaseWords {
-            phase: 6,
-            a: pred,
-            b: node,
-            c: lower,
-            d: upper,
-            e: 0,
-        },
-        Phase::Link {
-            pred,
-            node,
-            lower,
-            upper,
-            number,
-        } => PhaseWords {
-            phase: 7,
-            a: pred,
-            b: node,
-            c: lower,
-            d: upper,
-            e: number,
-        },
-        Phase::Finish {
-            pred,
-            node,
-            lower,
-            upper,
-            number,
-        } => PhaseWords {
-            phase: 8,
-            a: pred,
-            b: node,
-            c: lower,
-            d: upper,
-            e: number,
-        },
-        Phase::Newest { at } => PhaseWords {
-            phase: 9,
-            a: at,
-            b: 0,
-            c: 0,
-            d: 0,
-            e: 0,
-        },
-        Phase::Fix { pred } => PhaseWords {
-            phase: 10,
-            a: pred,
-            b: 0,
-            c: 0,
-            d: 0,
-            e: 0,
-        },
-        Phase::Follow {
-            at,
-            snapshot,
-            handed,
-        } => PhaseWords {
-            phase: 11,
-            a: at,
-            b: snapshot,
-            c: handed,
-            d: 0,
-            e: 0,
-        },
-        Phase::Hand {
-            at,
-            snapshot,
-            handed,
-        } => PhaseWords {
-            phase: 12,
-            a: at,
-            b: snapshot,
-            c: handed,
-            d: 0,
-            e: 0,
-        },
+impl From<Phase> for PhaseWords {
+    ghost from_gives = { λ p w. w ≡ phase_words p };
+
+    fn from(phase: Phase) -> Self {
+        match phase {
+            Phase::Idle => PhaseWords::default(),
+            Phase::Walk { pred, curr } => PhaseWords {
+                phase: 1,
+                a: pred,
+                b: curr,
+                ..PhaseWords::default()
+            },
+            Phase::Lock { pred, curr } => PhaseWords {
+                phase: 2,
+                a: pred,
+                b: curr,
+                ..PhaseWords::default()
+            },
+            Phase::LockCurr { pred, curr } => PhaseWords {
+                phase: 3,
+                a: pred,
+                b: curr,
+                ..PhaseWords::default()
+            },
+            Phase::Check { pred, curr } => PhaseWords {
+                phase: 4,
+                a: pred,
+                b: curr,
+                ..PhaseWords::default()
+            },
+            Phase::Prepare { pred, curr } => PhaseWords {
+                phase: 5,
+                a: pred,
+                b: curr,
+                ..PhaseWords::default()
+            },
+            Phase::Number {
+                pred,
+                node,
+                lower,
+                upper,
+            } => PhaseWords {
+                phase: 6,
+                a: pred,
+                b: node,
+                c: lower,
+                d: upper,
+                ..PhaseWords::default()
+            },
+            Phase::Link {
+                pred,
+                node,
+                lower,
+                upper,
+                number,
+            } => PhaseWords {
+                phase: 7,
+                a: pred,
+                b: node,
+                c: lower,
+                d: upper,
+                e: number,
+            },
+            Phase::Finish {
+                pred,
+                node,
+                lower,
+                upper,
+                number,
+            } => PhaseWords {
+                phase: 8,
+                a: pred,
+                b: node,
+                c: lower,
+                d: upper,
+                e: number,
+            },
+            Phase::Newest { at } => PhaseWords {
+                phase: 9,
+                a: at,
+                ..PhaseWords::default()
+            },
+            Phase::Fix { pred } => PhaseWords {
+                phase: 10,
+                a: pred,
+                ..PhaseWords::default()
+            },
+            Phase::Follow {
+                at,
+                snapshot,
+                handed,
+            } => PhaseWords {
+                phase: 11,
+                a: at,
+                b: snapshot,
+                c: handed,
+                ..PhaseWords::default()
+            },
+            Phase::Hand {
+                at,
+                snapshot,
+                handed,
+            } => PhaseWords {
+                phase: 12,
+                a: at,
+                b: snapshot,
+                c: handed,
+                ..PhaseWords::default()
+            },
+        }
     }
 }
 
-pub fn encode_session(s: Session) -> Words
-    ensures { result ≡ encode s }
-{
-    let o = s.op;
-    let p = s.phase;
-    let op = op_words(o);
-    let phase = phase_words(p);
-    Words { op, phase }
+impl From<Session> for Words {
+    ghost from_gives = { λ s w. w ≡ encode s };
+
+    fn from(s: Session) -> Self {
+        Words {
+            op: OpWords::from(s.op),
+            phase: PhaseWords::from(s.phase),
+        }
+    }
 }
 
 // Any other kind names no operation.
+#[tactic(auto, unfolding(crate::specs::Encoding::op_from))]
 pub fn op_from(kind: u32, first: u32, second: u32) -> Op
     ensures { result ≡ op_from kind first second }
 {
-    if kind == 1 {
-        return Op::Insert(first, second);
-    }
-    if kind == 2 {
-        return Op::Remove(first);
-    }
-    if kind == 3 {
-        return Op::Has(first);
-    }
-    if kind == 4 {
-        return Op::Range(first, second);
-    }
-    Op::None
-}
-
-// Phases 1 to 5.
-fn walking_from(phase: u32, pred: u32, curr: u32) -> Phase
-    ensures { result ≡ walking_from phase pred curr }
-{
-    if phase == 1 {
-        return Phase::Walk { pred, curr };
-    }
-    if phase == 2 {
-        return Phase::Lock { pred, curr };
-    }
-    if phase == 3 {
-        return Phase::LockCurr { pred, curr };
-    }
-    if phase == 4 {
-        return Phase::Check { pred, curr };
-    }
-    Phase::Prepare { pred, curr }
-}
-
-// Phases 6 to 8.
-fn updating_from(phase: u32, pred: u32, node: u32, lower: u32, upper: u32, number: u32) -> Phase
-    ensures { result ≡ updating_from phase pred node lower upper number }
-{
-    if phase == 6 {
-        return Phase::Number {
-            pred,
-            node,
-            lower,
-            upper,
-        };
-    }
-    if phase == 7 {
-        return Phase::Link {
-            pred,
-            node,
-            lower,
-            upper,
-            number,
-        };
-    }
-    Phase::Finish {
-        pred,
-        node,
-        lower,
-        upper,
-        number,
+    match kind {
+        1 => Op::Insert(first, second),
+        2 => Op::Remove(first),
+        3 => Op::Has(first),
+        4 => Op::Range(first, second),
+        _ => Op::None,
     }
 }
 
-// Phases 9 to 12.
-fn reading_from(phase: u32, at: u32, snapshot: u32, handed: u32) -> Phase
-    ensures { result ≡ reading_from phase at snapshot handed }
-{
-    if phase == 9 {
-        return Phase::Newest { at };
-    }
-    if phase == 10 {
-        return Phase::Fix { pred: at };
-    }
-    if phase == 11 {
-        return Phase::Follow {
-            at,
-            snapshot,
-            handed,
-        };
-    }
-    Phase::Hand {
-        at,
-        snapshot,
-        handed,
-    }
-}
-
+// Any phase past 11 is read as the last one: decoding tells whether it is (front_right).
+#[tactic(auto, unfolding(crate::specs::Encoding::phase_from, crate::specs::Encoding::walking_from, crate::specs::Encoding::updating_from, crate::specs::Encoding::reading_from))]
 fn phase_from(w: PhaseWords) -> Phase
     ensures { result ≡ phase_from w }
 {
-    if w.phase == 0 {
-        return Phase::Idle;
+    match w.phase {
+        0 => Phase::Idle,
+        1 => Phase::Walk {
+            pred: w.a,
+            curr: w.b,
+        },
+        2 => Phase::Lock {
+            pred: w.a,
+            curr: w.b,
+        },
+        3 => Phase::LockCurr {
+            pred: w.a,
+            curr: w.b,
+        },
+        4 => Phase::Check {
+            pred: w.a,
+            curr: w.b,
+        },
+        5 => Phase::Prepare {
+            pred: w.a,
+            curr: w.b,
+        },
+        6 => Phase::Number {
+            pred: w.a,
+            node: w.b,
+            lower: w.c,
+            upper: w.d,
+        },
+        7 => Phase::Link {
+            pred: w.a,
+            node: w.b,
+            lower: w.c,
+            upper: w.d,
+            number: w.e,
+        },
+        8 => Phase::Finish {
+            pred: w.a,
+            node: w.b,
+            lower: w.c,
+            upper: w.d,
+            number: w.e,
+        },
+        9 => Phase::Newest { at: w.a },
+        10 => Phase::Fix { pred: w.a },
+        11 => Phase::Follow {
+            at: w.a,
+            snapshot: w.b,
+            handed: w.c,
+        },
+        _ => Phase::Hand {
+            at: w.a,
+            snapshot: w.b,
+            handed: w.c,
+        },
     }
-    if w.phase <= 5 {
-        return walking_from(w.phase, w.a, w.b);
-    }
-    if w.phase <= 8 {
-        return updating_from(w.phase, w.a, w.b, w.c, w.d, w.e);
-    }
-    reading_from(w.phase, w.a, w.b, w.c)
 }
 
 fn session_from(w: Words) -> Session
     ensures { result ≡ session_from w }
 {
     let o = w.op;
-    let p = w.phase;
-    let op = op_from(o.kind, o.first, o.second);
-    let phase = phase_from(p);
-    Session { op, phase }
+    Session {
+        op: op_from(o.kind, o.first, o.second),
+        phase: phase_from(w.phase),
+    }
 }
 
+#[tactic(auto, unfolding(crate::specs::Encoding::same_three))]
 pub fn all_zero(x: u32, y: u32, z: u32) -> bool
     ensures { result ≡ same_three x y z 0 0 0 }
 {
-    if x == 0 {
-        if y == 0 {
-            return z == 0;
-        }
-        return false;
-    }
-    false
+    x == 0 && y == 0 && z == 0
 }
 
 // A kind, and 0 in the words that it does not use.
+#[tactic(auto, unfolding(crate::specs::Encoding::op_right, crate::specs::Encoding::op_from, crate::specs::Encoding::same_three))]
 pub fn op_right(w: OpWords) -> bool
     ensures { result ≡ op_right w }
 {
-    if w.kind == 0 {
-        return all_zero(w.kind, w.first, w.second);
+    match w.kind {
+        0 => w.first == 0 && w.second == 0,
+        1 | 4 => true,
+        2 | 3 => w.second == 0,
+        _ => false,
     }
-    if w.kind == 1 {
-        return true;
-    }
-    if w.kind == 4 {
-        return true;
-    }
-    if w.kind <= 3 {
-        return w.second == 0;
-    }
-    false
 }
 
 // A phase, and 0 in those of its first two numbers that it does not use.
+#[tactic(auto, unfolding(crate::specs::Encoding::front_right, crate::specs::Encoding::phase_from, crate::specs::Encoding::walking_from, crate::specs::Encoding::updating_from, crate::specs::Encoding::reading_from, crate::specs::Encoding::same_three))]
 fn front_right(w: PhaseWords) -> bool
     ensures { result ≡ front_right w }
 {
-    if w.phase == 0 {
-        return all_zero(w.phase, w.a, w.b);
+    match w.phase {
+        0 => w.a == 0 && w.b == 0,
+        1..=8 => true,
+        9 | 10 => w.b == 0,
+        _ => w.phase <= 12,
     }
-    if w.phase <= 8 {
-        return true;
-    }
-    if w.phase <= 10 {
-        return w.b == 0;
-    }
-    w.phase <= 12
 }
 
 // 0 in those of the last three numbers that the phase does not use.
+#[tactic(auto, unfolding(crate::specs::Encoding::back_right, crate::specs::Encoding::phase_from, crate::specs::Encoding::walking_from, crate::specs::Encoding::updating_from, crate::specs::Encoding::reading_from, crate::specs::Encoding::same_three))]
 fn back_right(w: PhaseWords) -> bool
     ensures { result ≡ back_right w }
 {
-    if w.phase <= 5 {
-        return all_zero(w.c, w.d, w.e);
+    match w.phase {
+        0..=5 | 9 | 10 => all_zero(w.c, w.d, w.e),
+        6 => w.e == 0,
+        7 | 8 => true,
+        _ => w.d == 0 && w.e == 0,
     }
-    if w.phase == 6 {
-        return w.e == 0;
-    }
-    if w.phase <= 8 {
-        return true;
-    }
-    if w.phase <= 10 {
-        return all_zero(w.c, w.d, w.e);
-    }
-    all_zero(0, w.d, w.e)
 }
 
 // The record that encodes to these words. What no record encodes to is malformed: a kind above 4, a phase above 12,
 // an unused word that is not 0.
-pub fn decode_words(w: Words) -> Decoded
-    ensures { result ≡ decode w }
-{
-    let o = w.op;
-    let p = w.phase;
-    if op_right(o) {
-        if front_right(p) {
-            if back_right(p) {
-                let s = session_from(w);
-                return Decoded::Record(s);
-            }
-            return Decoded::Malformed;
+impl TryFrom<Words> for Session {
+    type Error = Malformed;
+
+    ghost try_from_gives = { λ w r. r ≡ decode w };
+
+    #[tactic(auto, unfolding(crate::specs::Encoding::decode))]
+    fn try_from(w: Words) -> Result<Self, Malformed> {
+        if op_right(w.op) && front_right(w.phase) && back_right(w.phase) {
+            Ok(session_from(w))
+        } else {
+            Err(Malformed)
         }
-        return Decoded::Malformed;
     }
-    Decoded::Malformed
 }

@@ -1,3 +1,2 @@
--- Each way through writing and reading; one outcome each.
-pub mod Ways
+-- One outcome each.
 pub mod Only

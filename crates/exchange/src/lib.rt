@@ -13,9 +13,10 @@ ghost use Rattle.exchange.specs.Exchange.{left, loaded_reply, loaded_words, read
 use listing::Written;
 use loading::Loaded;
 use packing::Reply;
+use terms::Refusal;
 
 // Puts a reply, and returns what the call returns.
-fn give(answer: &mut [u32], reply: Reply) -> u32
+pub fn give(answer: &mut [u32], reply: Reply) -> u32
     ensures { told answer.new result ≡ given answer.old reply }
 {
     packing::put_reply(answer, reply);
@@ -30,13 +31,14 @@ fn written_reply(w: Written) -> Reply
         Written::Length(n) => Reply {
             name: 10,
             first: (n % 4294967296) as u32,
-            second: 0,
+            ..Reply::default()
         },
         Written::NoRoom => packing::refused(11),
         Written::BadPairs => packing::refused(12),
     }
 }
 
+#[tactic(auto, unfolding(crate::specs::Exchange::write_call))]
 pub fn write_listing(
     stamp: u32,
     keys: &[u32],
@@ -48,12 +50,11 @@ pub fn write_listing(
         ≡ write_call key_room stamp keys.now values.now out.old
         answer.old }
 {
-    if answer.len() == 3 {
-        let w = listing::write(stamp, keys, values, out);
-        let reply = written_reply(w);
-        return give(answer, reply);
+    if answer.len() != 3 {
+        return u32::from(Refusal::BadTable);
     }
-    7
+    let w = listing::write(stamp, keys, values, out);
+    give(answer, written_reply(w))
 }
 
 // An offset is a word too: it is at most the length of the longest listing.
@@ -64,9 +65,9 @@ fn loaded_reply(l: Loaded) -> Reply
         Loaded::Register(c) => Reply {
             name: 11,
             first: c.stamp,
-            second: 0,
+            ..Reply::default()
         },
-        Loaded::BadTable => packing::refused(7),
+        Loaded::BadTable => Reply::from(Refusal::BadTable),
         Loaded::BadListing(offset) => Reply {
             name: 0,
             first: 9,
@@ -97,6 +98,7 @@ fn put_loaded(words: &mut [u32], l: Loaded)
     }
 }
 
+#[tactic(auto, unfolding(crate::specs::Exchange::read_loaded))]
 fn read_loaded(
     input: &[u8],
     nodes: &mut [u32],
@@ -110,10 +112,10 @@ fn read_loaded(
 {
     let l = loading::load(input, nodes, entries);
     put_loaded(words, l);
-    let reply = loaded_reply(l);
-    give(answer, reply)
+    give(answer, loaded_reply(l))
 }
 
+#[tactic(auto, unfolding(crate::specs::Exchange::read_call, packing::specs::Packing::number_of))]
 pub fn read_listing(
     input: &[u8],
     nodes: &mut [u32],
@@ -125,12 +127,11 @@ pub fn read_listing(
         ≡ read_call small input.now nodes.old entries.old words.old
         answer.old }
 {
-    if answer.len() == 3 {
-        if words.len() == 147 {
-            return read_loaded(input, nodes, entries, words, answer);
-        }
-        let reply = packing::refused(7);
-        return give(answer, reply);
+    if answer.len() != 3 {
+        return u32::from(Refusal::BadTable);
     }
-    7
+    if words.len() != 147 {
+        return give(answer, Reply::from(Refusal::BadTable));
+    }
+    read_loaded(input, nodes, entries, words, answer)
 }

@@ -11,7 +11,7 @@ use Rattle.terms.specs.declared.Refusal.{Refusal}
 use Rattle.steps.specs.declared.Session.{Session}
 use Rattle.steps.specs.Steps.{done, refuses}
 use Rattle.register.specs.Register.{keeps, start_of, step_of}
-use Rattle.encoding.specs.declared.Decoded.{Decoded}
+use Rattle.std.specs.Prelude.{Ok}
 use Rattle.encoding.specs.Encoding.{encode, decode}
 use Rattle.encoding.proofs.Trip.{encode_decode}
 use Rattle.packing.specs.Packing.{counters_at, put_counters, record_at, put_record, number_of}
@@ -21,7 +21,7 @@ use Rattle.calling.specs.Calling.{kept}
 use Rattle.stepping.specs.Stepping.{step_record}
 use Rattle.ffi.specs.Ffi.{deaf, start_record}
 
-module _ (ws : List ℕ) (who : ℕ) (s : Session) (read : decode (record_at ws who) ≡ Decoded.Record s) where
+module _ (ws : List ℕ) (who : ℕ) (s : Session) (read : decode (record_at ws who) ≡ Ok s) where
   pub record_kept : put_record ws who (encode s) ≡ ws
   record_kept = ap (put_record ws who) (encode_decode (record_at ws who) s read) ∙ record_same ws who
 

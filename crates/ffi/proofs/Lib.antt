@@ -1,4 +1,4 @@
--- Each way through the calls; a walk's short way is the step; a refusal changes nothing; one outcome each.
+-- What the calls refuse; a walk's short way is the step; a refusal changes nothing; one outcome each.
 pub mod Ways
 pub mod Walks
 pub mod Kept

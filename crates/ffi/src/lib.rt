@@ -26,32 +26,31 @@ ghost use Rattle.ffi.specs.Ffi.{
   steps_call,
 };
 
-use encoding::Decoded;
-use packing::{A, B};
+use encoding::{Malformed, Words};
+use packing::{A, B, Reply};
 use register::Opened;
-use shortly::Walked;
 use steps::Session;
-use terms::{Answer, Op};
+use terms::{Answer, Op, Refusal};
 
+#[tactic(auto, unfolding(crate::specs::Ffi::fresh_call))]
 #[unsafe(no_mangle)]
 pub extern "C" fn ravencrumb_fresh(nodes: &mut [u32], entries: &mut [u32], words: &mut [u32]) -> u32
     ensures { cleared nodes.new entries.new words.new result
         ≡ fresh_call small nodes.old entries.old words.old }
 {
-    if words.len() == 147 {
-        match register::fresh(nodes, entries) {
-            Opened::Ready(counters) => {
-                packing::fresh_words(words, counters);
-                return 0;
-            }
-            Opened::Refused(why) => {
-                return packing::refusal_number(why);
-            }
-        }
+    if words.len() != 147 {
+        return u32::from(Refusal::BadTable);
     }
-    7
+    match register::fresh(nodes, entries) {
+        Opened::Ready(counters) => {
+            packing::fresh_words(words, counters);
+            0
+        }
+        Opened::Refused(why) => u32::from(why),
+    }
 }
 
+#[tactic(auto, unfolding(crate::specs::Ffi::start_record))]
 fn start_record(
     nodes: &[u32],
     entries: &[u32],
@@ -66,13 +65,11 @@ fn start_record(
         who op s }
 {
     let out = register::start(nodes, entries, who, s, op);
-    let session = out.session;
-    let given = out.answer;
-    let w = encoding::encode_session(session);
-    packing::put_record(words, who, w);
-    calling::tell(answer, given)
+    packing::put_record(words, who, Words::from(out.session));
+    calling::tell(answer, out.answer)
 }
 
+#[tactic(auto, unfolding(crate::specs::Ffi::start_session))]
 fn start_session(
     nodes: &[u32],
     entries: &[u32],
@@ -85,14 +82,14 @@ fn start_session(
         ≡ start_session small nodes.now entries.now words.old answer.old
         who op }
 {
-    let w = packing::record_at(words, who);
-    match encoding::decode_words(w) {
-        Decoded::Record(s) => start_record(nodes, entries, words, answer, who, s, op),
-        Decoded::Malformed => calling::refuse(answer, 8),
+    match Session::try_from(packing::record_at(words, who)) {
+        Ok(s) => start_record(nodes, entries, words, answer, who, s, op),
+        Err(Malformed) => calling::refuse(answer, Refusal::Damaged),
     }
 }
 
 // Kind 1 insert (key, value), 2 remove (key), 3 has (key), 4 range (low, high). Any other names no key: refused 3.
+#[tactic(auto, unfolding(crate::specs::Ffi::start_call))]
 #[unsafe(no_mangle)]
 pub extern "C" fn ravencrumb_start(
     nodes: &[u32],
@@ -108,21 +105,22 @@ pub extern "C" fn ravencrumb_start(
         ≡ start_call small nodes.now entries.now words.old answer.old
         who kind first second }
 {
-    if answer.len() == 3 {
-        if calling::right_lengths(nodes, entries, words) {
-            if 16 <= who {
-                return calling::refuse(answer, 1);
-            }
-            let op = encoding::op_from(kind, first, second);
-            return start_session(nodes, entries, words, answer, who, op);
-        }
-        return calling::refuse(answer, 7);
+    if answer.len() != 3 {
+        return u32::from(Refusal::BadTable);
     }
-    7
+    if !calling::right_lengths(nodes, entries, words) {
+        return calling::refuse(answer, Refusal::BadTable);
+    }
+    if 16 <= who {
+        return calling::refuse(answer, Refusal::BadSession);
+    }
+    let op = encoding::op_from(kind, first, second);
+    start_session(nodes, entries, words, answer, who, op)
 }
 
 // Steps of one session: see crate several for when it ends. Key i handed out is word 2 i of `pairs`, its value the
 // next.
+#[tactic(auto, unfolding(crate::specs::Ffi::steps_call, calling::specs::Calling::many_call))]
 #[unsafe(no_mangle)]
 pub extern "C" fn ravencrumb_steps(
     nodes: &mut [u32],
@@ -138,13 +136,14 @@ pub extern "C" fn ravencrumb_steps(
         ≡ steps_call small nodes.old entries.old words.old pairs.old
         answer.old who limit }
 {
-    if answer.len() == 5 {
-        return calling::many(nodes, entries, words, pairs, answer, who, limit);
+    if answer.len() != 5 {
+        return u32::from(Refusal::BadTable);
     }
-    7
+    calling::many(nodes, entries, words, pairs, answer, who, limit)
 }
 
 // Of an operation that seeks this key.
+#[tactic(auto, using(crate::proofs::Walks::walks_shortly))]
 fn step_walking(
     nodes: &mut [u32],
     entries: &mut [u32],
@@ -160,14 +159,15 @@ fn step_walking(
 {
     let p = packing::phase_at(words, who);
     match shortly::walk(nodes, sought, p) {
-        Walked::On(next) => {
-            let reply = packing::say(Answer::Working);
+        Some(next) => {
+            let reply = Reply::from(Answer::Working);
             stepping::go(words, answer, who, A, p.b, B, next, reply)
         }
-        Walked::Long => stepping::otherwise(nodes, entries, words, answer, who),
+        None => stepping::otherwise(nodes, entries, words, answer, who),
     }
 }
 
+#[tactic(auto, using(crate::proofs::Walks::seeks_first))]
 fn step_seeking(
     nodes: &mut [u32],
     entries: &mut [u32],
@@ -206,6 +206,7 @@ fn step_shortly(
 }
 
 // The other checks, where the nodes and the answer have their lengths.
+#[tactic(auto, unfolding(stepping::specs::Stepping::step_call, calling::specs::Calling::lengths_fit, register::specs::Register::fits))]
 fn step_checked(
     nodes: &mut [u32],
     entries: &mut [u32],
@@ -218,30 +219,31 @@ fn step_checked(
         ≡ step_call small nodes.old entries.old words.old answer.old
         who }
 {
-    if entries.len() == 8192 {
-        if who < 16 {
-            if words.len() == 147 {
-                return step_shortly(nodes, entries, words, answer, who);
-            }
-            return calling::refuse(answer, 7);
-        }
-        return stepping::otherwise(nodes, entries, words, answer, who);
+    if entries.len() != 8192 {
+        return calling::refuse(answer, Refusal::BadTable);
     }
-    calling::refuse(answer, 7)
+    if who < 16 {
+        if words.len() != 147 {
+            return calling::refuse(answer, Refusal::BadTable);
+        }
+        return step_shortly(nodes, entries, words, answer, who);
+    }
+    stepping::otherwise(nodes, entries, words, answer, who)
 }
 
 // Where the nodes have another length. An answer of another length stays as it is.
 fn refuse_nodes(answer: &mut [u32]) -> u32
     ensures { told answer.new result ≡ unfit answer.old }
 {
-    if answer.len() == 3 {
-        return calling::refuse(answer, 7);
+    if answer.len() != 3 {
+        return u32::from(Refusal::BadTable);
     }
-    7
+    calling::refuse(answer, Refusal::BadTable)
 }
 
 // By a short way where one leads: nearly all steps are a walk's or a range's. Of the checks no two in a row go on
 // alike: compiled code would make one test of the two, which costs more than both.
+#[tactic(auto, unfolding(stepping::specs::Stepping::step_call, calling::specs::Calling::lengths_fit, register::specs::Register::fits))]
 #[unsafe(no_mangle)]
 pub extern "C" fn ravencrumb_step(
     nodes: &mut [u32],
@@ -254,13 +256,13 @@ pub extern "C" fn ravencrumb_step(
         ≡ step_call small nodes.old entries.old words.old answer.old
         who }
 {
-    if nodes.len() == 3072 {
-        if answer.len() == 3 {
-            return step_checked(nodes, entries, words, answer, who);
-        }
+    if nodes.len() != 3072 {
+        return refuse_nodes(answer);
+    }
+    if answer.len() != 3 {
         return stepping::otherwise(nodes, entries, words, answer, who);
     }
-    refuse_nodes(answer)
+    step_checked(nodes, entries, words, answer, who)
 }
 
 #[unsafe(no_mangle)]

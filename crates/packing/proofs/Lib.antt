@@ -1,3 +1,2 @@
--- Each way through the packing's functions; putting back what is there.
-pub mod Ways
+-- Putting back what is there.
 pub mod Same

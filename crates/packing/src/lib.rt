@@ -16,8 +16,6 @@ ghost use Rattle.packing.specs.Packing.{
   record_at,
   phase_number,
   put_op,
-  put_front,
-  put_back,
   put_phase,
   put_two,
   put_record,
@@ -40,8 +38,8 @@ pub const B: u32 = 8;
 
 pub const C: u32 = 9;
 
-// An answer's name and values, as numbers.
-#[derive(Clone, Copy)]
+// An answer's name and values, as numbers: a refusal's name is 0, a value that an answer doesn't have is 0.
+#[derive(Clone, Copy, Default)]
 pub struct Reply {
     pub name: u32,
     pub first: u32,
@@ -58,6 +56,7 @@ pub fn counters_at(words: &[u32]) -> Counters
     }
 }
 
+#[tactic(auto, unfolding(crate::specs::Packing::put_counters))]
 pub fn put_counters(words: &mut [u32], c: Counters)
     ensures { words.new ≡ put_counters words.old c }
 {
@@ -92,9 +91,10 @@ pub fn phase_at(words: &[u32], who: u32) -> PhaseWords
 pub fn record_at(words: &[u32], who: u32) -> Words
     ensures { result ≡ record_at words.now who }
 {
-    let op = op_at(words, who);
-    let phase = phase_at(words, who);
-    Words { op, phase }
+    Words {
+        op: op_at(words, who),
+        phase: phase_at(words, who),
+    }
 }
 
 // The phase's number alone, for who asks nothing else of a record.
@@ -104,6 +104,7 @@ pub fn phase_number(words: &[u32], who: u32) -> u32
     table::word(words, 9, who, PHASE)
 }
 
+#[tactic(auto, unfolding(crate::specs::Packing::put_op))]
 fn put_op(words: &mut [u32], who: u32, w: OpWords)
     ensures { words.new ≡ put_op words.old who w }
 {
@@ -112,27 +113,16 @@ fn put_op(words: &mut [u32], who: u32, w: OpWords)
     table::store(words, 9, who, 5, w.second);
 }
 
-fn put_front(words: &mut [u32], who: u32, w: PhaseWords)
-    ensures { words.new ≡ put_front words.old who w }
+#[tactic(auto, unfolding(crate::specs::Packing::put_front, crate::specs::Packing::put_back))]
+fn put_phase(words: &mut [u32], who: u32, w: PhaseWords)
+    ensures { words.new ≡ put_phase words.old who w }
 {
     table::store(words, 9, who, 6, w.phase);
     table::store(words, 9, who, 7, w.a);
     table::store(words, 9, who, 8, w.b);
-}
-
-fn put_back(words: &mut [u32], who: u32, w: PhaseWords)
-    ensures { words.new ≡ put_back words.old who w }
-{
     table::store(words, 9, who, 9, w.c);
     table::store(words, 9, who, 10, w.d);
     table::store(words, 9, who, 11, w.e);
-}
-
-fn put_phase(words: &mut [u32], who: u32, w: PhaseWords)
-    ensures { words.new ≡ put_phase words.old who w }
-{
-    put_front(words, who, w);
-    put_back(words, who, w);
 }
 
 // Two words of a record, where a step leaves the others as they are.
@@ -146,10 +136,8 @@ pub fn put_two(words: &mut [u32], who: u32, j: u32, x: u32, k: u32, y: u32)
 pub fn put_record(words: &mut [u32], who: u32, w: Words)
     ensures { words.new ≡ put_record words.old who w }
 {
-    let op = w.op;
-    let phase = w.phase;
-    put_op(words, who, op);
-    put_phase(words, who, phase);
+    put_op(words, who, w.op);
+    put_phase(words, who, w.phase);
 }
 
 // An idle record's words are all 0.
@@ -160,94 +148,82 @@ pub fn fresh_words(words: &mut [u32], c: Counters)
     put_counters(words, c);
 }
 
-pub fn refusal_number(why: Refusal) -> u32
-    ensures { result ≡ refusal_number why }
-{
-    match why {
-        Refusal::BadSession => 1,
-        Refusal::Busy => 2,
-        Refusal::BadKey => 3,
-        Refusal::BadRange => 4,
-        Refusal::Idle => 5,
-        Refusal::Full => 6,
-        Refusal::BadTable => 7,
-        Refusal::Damaged => 8,
-    }
-}
-
 pub fn refused(number: u32) -> Reply
     ensures { result ≡ refused_by number }
 {
     Reply {
-        name: 0,
         first: number,
-        second: 0,
+        ..Reply::default()
     }
 }
 
-pub fn say(a: Answer) -> Reply
-    ensures { result ≡ reply_of a }
-{
-    match a {
-        Answer::Started => Reply {
-            name: 1,
-            first: 0,
-            second: 0,
-        },
-        Answer::Working => Reply {
-            name: 2,
-            first: 0,
-            second: 0,
-        },
-        Answer::Waiting => Reply {
-            name: 3,
-            first: 0,
-            second: 0,
-        },
-        Answer::Key(k, v) => Reply {
-            name: 4,
-            first: k,
-            second: v,
-        },
-        Answer::Inserted(n) => Reply {
-            name: 5,
-            first: n,
-            second: 0,
-        },
-        Answer::Removed(n) => Reply {
-            name: 6,
-            first: n,
-            second: 0,
-        },
-        Answer::Present => Reply {
-            name: 7,
-            first: 0,
-            second: 0,
-        },
-        Answer::Absent => Reply {
-            name: 8,
-            first: 0,
-            second: 0,
-        },
-        Answer::End(snapshot, handed) => Reply {
-            name: 9,
-            first: snapshot,
-            second: handed,
-        },
-        Answer::Refused(why) => refused(refusal_number(why)),
+impl From<Refusal> for Reply {
+    ghost from_gives = { λ why r. r ≡ refused_by (refusal_number why) };
+
+    fn from(why: Refusal) -> Self {
+        refused(u32::from(why))
+    }
+}
+
+impl From<Answer> for Reply {
+    ghost from_gives = { λ a r. r ≡ reply_of a };
+
+    fn from(a: Answer) -> Self {
+        match a {
+            Answer::Started => Reply {
+                name: 1,
+                ..Reply::default()
+            },
+            Answer::Working => Reply {
+                name: 2,
+                ..Reply::default()
+            },
+            Answer::Waiting => Reply {
+                name: 3,
+                ..Reply::default()
+            },
+            Answer::Key(first, second) => Reply {
+                name: 4,
+                first,
+                second,
+            },
+            Answer::Inserted(first) => Reply {
+                name: 5,
+                first,
+                ..Reply::default()
+            },
+            Answer::Removed(first) => Reply {
+                name: 6,
+                first,
+                ..Reply::default()
+            },
+            Answer::Present => Reply {
+                name: 7,
+                ..Reply::default()
+            },
+            Answer::Absent => Reply {
+                name: 8,
+                ..Reply::default()
+            },
+            Answer::End(first, second) => Reply {
+                name: 9,
+                first,
+                second,
+            },
+            Answer::Refused(why) => Reply::from(why),
+        }
     }
 }
 
 // What a call returns: a refusal's number, else 0.
+#[tactic(auto, unfolding(crate::specs::Packing::number_of))]
 pub fn number_in(r: Reply) -> u32
     ensures { result ≡ number_of r }
 {
-    if r.name == 0 {
-        return r.first;
-    }
-    0
+    if r.name == 0 { r.first } else { 0 }
 }
 
+#[tactic(auto, unfolding(crate::specs::Packing::put_reply))]
 pub fn put_reply(answer: &mut [u32], r: Reply)
     ensures { answer.new ≡ put_reply answer.old r }
 {

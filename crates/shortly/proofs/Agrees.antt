@@ -1,11 +1,11 @@
 -- What a short way tells is the outcome of the step of the record that the words stand for.
 -- In order: the phase that the words say; Walk; Follow; Hand; the two calls.
 -- Not here: that storing the words that change stores the record (crate stepping). Assumes nothing.
-use Rattle.std.specs.Prelude.{Result, Ok, Err}
 use Prim.Native.Nat.{ℕ, ◌+◌, ◌≤◌, ◌<◌}
 use mathlib.Core.Path.{◌≡◌, refl, sym, ap, ◌∙◌}
 use mathlib.Core.List.{List}
-use mathlib.Core.Bool.{Bool, true, cond}
+use mathlib.Core.Bool.{Bool, true, false, cond}
+use Rattle.std.specs.Prelude.{Option, Some, None, Result, Ok, Err}
 use native.Mathlib.Omega.{arith}
 use borrow.Author.Tests.{le-leb, ltb-true, leb-true, eqb-true}
 use Rattle.order.proofs.Tests.{cond_cases, ltb_cases, eqb_cases}
@@ -22,13 +22,11 @@ use Rattle.steps.specs.Steps.{done, under_way, gives, works, range_sees, act_ste
 use Rattle.reading.proofs.Ways.{walk_on, range_on, range_in, follow_leads, hands}
 use Rattle.encoding.specs.declared.PhaseWords.{PhaseWords}
 use Rattle.encoding.specs.declared.Words.{Words}
-use Rattle.encoding.specs.declared.Decoded.{Decoded}
 use Rattle.encoding.specs.Encoding.{op_words, phase_words, phase_from, session_from, op_right, decode}
 use Rattle.encoding.proofs.Ways.{is_walk, is_follow, is_hand, is_walking, is_reading, is_range, right_range}
 use Rattle.encoding.proofs.Ways.{front_all, front_last, back_walks, back_last}
 use Rattle.encoding.proofs.Trip.{three_same, right_decodes}
 use Rattle.packing.specs.Packing.{reply_with, reply_of, number_of}
-use Rattle.shortly.specs.declared.Walked.{Walked}
 use Rattle.shortly.specs.declared.Ranged.{Ranged}
 use Rattle.shortly.specs.Shortly.{moves_on, seeks_of, walk_zeros, walk_shortly, sees_shortly, on_taken}
 use Rattle.shortly.specs.Shortly.{follow_shortly, hand_shortly, range_zeros, range_shortly}
@@ -65,7 +63,7 @@ module _ (w : PhaseWords) where
 module _ (z : Size) (ns es : List ℕ) (who : ℕ) (w : Words) where
   -- from the phase that the words say, the phase after it with its words, and the answer
   pub agrees : (ns' : List ℕ) (here phase : Phase) (a : Answer) (p : PhaseWords)
-      → decode w ≡ Decoded.Record (session_from w)
+      → decode w ≡ Ok (session_from w)
       → here ≡ phase_from w.phase → names_of (named w) ≡ true → under_way here ≡ true → phase_words phase ≡ p
       → number_of (reply_of a) ≡ 0
       → ((c : Counters) → act_step z ns es c who (named w) here ≡ done ns' es (gives c (named w) phase a))
@@ -93,7 +91,7 @@ module _ (z : Size) (ns es : List ℕ) (who : ℕ) (w : Words) where
     walk_named = op_named (named w) (λ h. some ((three_same _ _ _ _ _ _ right).0 ∙ h))
 
     module _ (one : w.phase.phase ≡ 1) (unused : walk_zeros w.phase ≡ true) where
-      walk_read : decode w ≡ Decoded.Record (session_from w)
+      walk_read : decode w ≡ Ok (session_from w)
       walk_read =
           right_decodes w right (sym (front_all w.phase (omega arith) (omega arith)))
           (sym (back_walks w.phase true (omega arith) (sym unused)))
@@ -112,7 +110,7 @@ module _ (z : Size) (ns es : List ℕ) (who : ℕ) (w : Words) where
 
   -- ---- Follow and Hand
   module _ (four : w.op.kind ≡ 4) (unused : range_zeros w ≡ true) where
-    range_read : 10 < w.phase.phase → w.phase.phase ≤ 12 → decode w ≡ Decoded.Record (session_from w)
+    range_read : 10 < w.phase.phase → w.phase.phase ≤ 12 → decode w ≡ Ok (session_from w)
     range_read h i =
         right_decodes w (sym (right_range w.op four)) (sym (front_last w.phase h) ∙ le-leb _ _ i)
         (sym (back_last w.phase true h (sym unused)))
@@ -161,12 +159,12 @@ module _ (z : Size) (ns es : List ℕ) (who : ℕ) (w : Words) where
         (hand_phase w.phase h) (rw (← range_named)) refl (cc) refl
         (λ c. ap (done ns es) (sym (hands _ _ _ _ _ _ _ _ _ _ in_table few refl refl refl)))
 
-  -- ---- the two calls: every way out is Long, or agrees
-  abbrev Walks : Walked → Type 0
+  -- ---- the two calls: every way out is None, or agrees
+  abbrev Walks : Option ℕ → Type 0
   Walks = WalkTold z ns es who w
 
-  walk_held : (t : Bool) (x : Walked) → (t ≡ true → Walks x) → Walks (cond t x Walked.Long)
-  walk_held t x f = cond_cases Walks t x Walked.Long f (λ _. tt)
+  walk_held : (t : Bool) (x : Option ℕ) → (t ≡ true → Walks x) → Walks (cond t x None)
+  walk_held t x f = cond_cases Walks t x None f (λ _. tt)
 
   walk_told : (w.op.kind ≡ 0 → ⊥) → op_right w.op ≡ true
       → WalkTold z ns es who w (walk_shortly z ns w.op.first w.phase)
@@ -182,11 +180,11 @@ module _ (z : Size) (ns es : List ℕ) (who : ℕ) (w : Words) where
       w.op.kind 0 _ _
       (λ _ no. let z : ◌≡◌ {A = ℕ} 0 1 = cc in absurd (omega (arith, z))) walk_told
 
-  abbrev Ranges : Ranged → Type 0
+  abbrev Ranges : Option Ranged → Type 0
   Ranges = RangeTold z ns es who w
 
-  range_held : (t : Bool) (x : Ranged) → (t ≡ true → Ranges x) → Ranges (cond t x Ranged.Long)
-  range_held t x f = cond_cases Ranges t x Ranged.Long f (λ _. tt)
+  range_held : (t : Bool) (x : Option Ranged) → (t ≡ true → Ranges x) → Ranges (cond t x None)
+  range_held t x f = cond_cases Ranges t x None f (λ _. tt)
 
   module _ (four : w.op.kind ≡ 4) (unused : range_zeros w ≡ true) where
     module _ (follows : w.phase.phase ≡ 11) (in_table : w.phase.a < z.nodes) where
@@ -204,7 +202,7 @@ module _ (z : Size) (ns es : List ℕ) (who : ℕ) (w : Words) where
       read_told : (o : Result ℕ Held) → at_of z.entries es (newest_at ns w.phase.a) w.phase.b ≡ o
           → Ranges (on_taken o (sees_shortly z ns w.op.first w.op.second))
       read_told (Ok to) link = sees_told to link
-      read_told (Err held) link = tt
+      read_told (Err _) link = tt
 
     follow_told : w.phase.phase ≡ 11
         → Ranges (follow_shortly z ns es w.op.first w.op.second w.phase.a w.phase.b)

@@ -1,4 +1,4 @@
--- Each way through the step; a short way is the step; one step is the first of many.
+-- An answer of another length; a short way is the step; one step is the first of many.
 pub mod Ways
 pub mod Short
 pub mod Single

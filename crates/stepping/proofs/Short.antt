@@ -6,6 +6,7 @@ use Prim.Native.Nat.{ℕ}
 use mathlib.Core.Path.{◌≡◌, refl, ap, ◌∙◌}
 use mathlib.Core.List.{List}
 use mathlib.Core.Bool.{Bool, true, false}
+use Rattle.std.specs.Prelude.{Option, Some, None}
 use lib.ListN.{length}
 use lib.Dec.{eqb}
 use borrow.Author.Tests.{lt-ltb, eq-eqb}
@@ -73,37 +74,38 @@ module _ (z : Size) (ns es ws out : List ℕ) (who : ℕ) (ready : IsAdmitted z 
 
   -- ---- each way out
   module _ (w : Words) (r : Reply) (ws' out' : List ℕ) (n : ℕ) (words : w ≡ record_at ws who) where
-    module _ (x : Ranged) (e : x ≡ range_shortly z ns es w) where
-      pub leads_shortly : (f to : ℕ) → x ≡ Ranged.Leads f to → r ≡ reply_of Answer.Working
+    module _ (x : Option Ranged) (e : x ≡ range_shortly z ns es w) where
+      pub leads_shortly : (f to : ℕ) → x ≡ Some (Ranged.Leads f to) → r ≡ reply_of Answer.Working
           → heard ws' out' n ≡ went ws out who 6 f 7 to r → left ns es ws' out' n ≡ step_call z ns es ws out who
       leads_shortly f to goes says puts =
-          let told : range_shortly z ns es (record_at ws who) ≡ Ranged.Leads f to = rw (← words, ← e, goes) in
-          let g : RangeTold z ns es who (record_at ws who) (Ranged.Leads f to)
+          let told : range_shortly z ns es (record_at ws who) ≡ Some (Ranged.Leads f to) = rw (← words, ← e, goes) in
+          let g : RangeTold z ns es who (record_at ws who) (Some (Ranged.Leads f to))
           = rw told at (range_is_step z ns es who (record_at ws who)) in
           cc (short_steps _ _ _ g, lead_put ws who f to)
 
-      pub hands_shortly : (m k v : ℕ) → x ≡ Ranged.Hands m k v → r ≡ reply_of (Answer.Key k v)
+      pub hands_shortly : (m k v : ℕ) → x ≡ Some (Ranged.Hands m k v) → r ≡ reply_of (Answer.Key k v)
           → heard ws' out' n ≡ went ws out who 6 11 9 m r → left ns es ws' out' n ≡ step_call z ns es ws out who
       hands_shortly m k v goes says puts =
-          let told : range_shortly z ns es (record_at ws who) ≡ Ranged.Hands m k v = rw (← words, ← e, goes) in
-          let g : RangeTold z ns es who (record_at ws who) (Ranged.Hands m k v)
+          let told : range_shortly z ns es (record_at ws who) ≡ Some (Ranged.Hands m k v) = rw (← words, ← e, goes) in
+          let g : RangeTold z ns es who (record_at ws who) (Some (Ranged.Hands m k v))
           = rw told at (range_is_step z ns es who (record_at ws who)) in
           cc (short_steps _ _ _ g, hand_put ws who 11 m)
 
 -- ---- an update's step that changes the phase alone
-module _ (z : Size) (ns es ws out : List ℕ) (who : ℕ) (o : OpWords) (p : PhaseWords) (ns' : List ℕ) (f : ℕ)
-    (way : advanced ns' f ≡ advance_of z ns who o p) where
-  pub advances_fully : (t : Left) → f ≡ 0 → t ≡ step_call z ns' es ws out who → t ≡ step_call z ns es ws out who
-  advances_fully t none e = e ∙ ap (λ m. step_call z m es ws out who) (advance_none z ns who o p ns' f way none)
+module _ (z : Size) (ns es ws out : List ℕ) (who : ℕ) (o : OpWords) (p : PhaseWords) (ns' : List ℕ) (x : Option ℕ)
+    (way : advanced ns' x ≡ advance_of z ns who o p) where
+  pub advances_fully : (t : Left) → x ≡ None → t ≡ step_call z ns' es ws out who → t ≡ step_call z ns es ws out who
+  advances_fully t none e = e ∙ ap (λ m. step_call z m es ws out who) (advance_none z ns who o p ns' x way none)
 
-  pub advances_shortly : (r : Reply) (ws' out' : List ℕ) (n : ℕ) → IsAdmitted z ns es ws out who → o ≡ op_at ws who
-      → p ≡ phase_at ws who → (f ≡ 0 → ⊥) → r ≡ reply_of Answer.Working
+  pub advances_shortly : (f : ℕ) (r : Reply) (ws' out' : List ℕ) (n : ℕ) → IsAdmitted z ns es ws out who → o ≡ op_at ws who
+      → p ≡ phase_at ws who → x ≡ Some f → r ≡ reply_of Answer.Working
       → heard ws' out' n ≡ went ws out who 6 f 7 p.a r → left ns' es ws' out' n ≡ step_call z ns es ws out who
-  advances_shortly r ws' out' n ready op phase some says puts =
-      let told : advance_of z ns who (op_at ws who) (phase_at ws who) ≡ advanced ns' f = rw (← op, ← phase, ← way) in
-      let g : AdvanceTold z ns es who (record_at ws who) (advanced ns' f)
+  advances_shortly f r ws' out' n ready op phase some says puts =
+      let told : advance_of z ns who (op_at ws who) (phase_at ws who) ≡ advanced ns' (Some f)
+      = rw (← op, ← phase, ← way, some) in
+      let g : AdvanceTold z ns es who (record_at ws who) (advanced ns' (Some f))
       = rw told at (advance_is_step z ns es who (record_at ws who)) in
-      cc (short_steps z ns es ws out who ready _ _ _ (g some), lead_put ws who f (phase_at ws who).a)
+      cc (short_steps z ns es ws out who ready _ _ _ g, lead_put ws who f (phase_at ws who).a)
 
 -- ---- an update's last steps
 module _ (z : Size) (ns es ws out : List ℕ) (who : ℕ) (ready : IsAdmitted z ns es ws out who) where
@@ -116,15 +118,15 @@ module _ (z : Size) (ns es ws out : List ℕ) (who : ℕ) (ready : IsAdmitted z 
 
   module _ (o : OpWords) (p : PhaseWords) (op : o ≡ op_at ws who) (phase : p ≡ phase_at ws who)
       (ws' out' : List ℕ) (m : ℕ) where
-    pub numbers_shortly : (r : Reply) (c : Counters) (n : ℕ) → c ≡ counters_at ws → n ≡ number_ahead z c.stamp o p
-        → (n ≡ 0 → ⊥) → r ≡ reply_of Answer.Working
+    pub numbers_shortly : (r : Reply) (c : Counters) (x : Option ℕ) (n : ℕ) → c ≡ counters_at ws
+        → x ≡ number_ahead z c.stamp o p → x ≡ Some n → r ≡ reply_of Answer.Working
         → heard ws' out' m ≡ settled ws out who (record { nodes = c.nodes; entries = c.entries; stamp = n })
         (record { op = o; phase = phase_with 7 p.a p.b p.c p.d n }) r
         → left ns es ws' out' m ≡ step_call z ns es ws out who
     unfolding number_of
-    numbers_shortly r c n counters way some says puts =
-        let told : n ≡ number_ahead z (counters_at ws).stamp (op_at ws who) (phase_at ws who) = cc in
-        let g = number_is_step z ns es (counters_at ws) who (record_at ws who) n told some in
+    numbers_shortly r c x n counters way some says puts =
+        let told : Some n ≡ number_ahead z (counters_at ws).stamp (op_at ws who) (phase_at ws who) = cc in
+        let g = number_is_step z ns es (counters_at ws) who (record_at ws who) n told in
         let kept : op_words (named (record_at ws who)) ≡ op_at ws who
         = ap (λ v. v.op) (encode_decode (record_at ws who) (session_from (record_at ws who)) g.1.read) in
         cc (acts_left ns es _ g.1, g.0, kept)

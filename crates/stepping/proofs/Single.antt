@@ -4,6 +4,7 @@ use Prim.Native.Nat.{ℕ, ◌+◌, ◌*◌, ◌≤◌}
 use mathlib.Core.Path.{◌≡◌, refl, sym, ◌∙◌, ap}
 use mathlib.Core.List.{List}
 use mathlib.Core.Bool.{Bool, true, false, cond}
+use Rattle.std.specs.Prelude.{Result, Ok, Err}
 use native.Mathlib.Omega.{arith}
 use lib.ListN.{length}
 use lib.Seq.{set_out}
@@ -18,7 +19,7 @@ use Rattle.steps.specs.Steps.{Done, done}
 use Rattle.register.specs.Register.{step_of}
 use Rattle.several.specs.declared.Said.{Said}
 use Rattle.several.specs.Several.{said_of, Handed, handed, hand_out, turn_with, turn_by, turn_of, stops, go_on}
-use Rattle.encoding.specs.declared.Decoded.{Decoded}
+use Rattle.encoding.specs.declared.Malformed.{Malformed}
 use Rattle.encoding.specs.Encoding.{decode}
 use Rattle.packing.specs.declared.Reply.{Reply}
 use Rattle.packing.specs.Packing.{counters_at, record_at, refused_by, put_reply}
@@ -65,11 +66,11 @@ module _ (z : Size) (ns es ws ps out : List ℕ) (who : ℕ) (three : length out
   one_record s = one_done (step_of z ns es (counters_at ws) who s)
 
   -- ---- the call
-  one_decoded : (d : Decoded)
+  one_decoded : (d : Result Session Malformed)
       → left_of (on_decoded d (steps_record z ns es ws ps out who 1) (stands_still ns es ws ps out 8))
       ≡ on_decoded d (step_record z ns es ws out who) (stays ns es ws out 8)
-  one_decoded (Decoded.Record s) = one_record s
-  one_decoded Decoded.Malformed = still_past 8
+  one_decoded (Ok s) = one_record s
+  one_decoded (Err _) = still_past 8
 
   one_session : left_of (steps_session z ns es ws ps out who 1) ≡ step_session z ns es ws out who
   unfolding steps_session step_session

@@ -8,17 +8,16 @@
 
 ghost use Rattle.std.specs.Prelude.{◌≡◌};
 ghost use Rattle.terms.specs.Terms.{small};
-ghost use Rattle.steps.specs.Steps.{idle};
-ghost use Rattle.encoding.specs.Encoding.{encode};
 ghost use Rattle.exchange.specs.Exchange.{left};
 ghost use Rattle.stepping.specs.Stepping.{IsAdmitted, heard, went, settled, ended, step_call};
 
-use encoding::{OpWords, PhaseWords, Words};
+use encoding::{PhaseWords, Words};
 use packing::{A, C, PHASE, Reply};
 use shortly::Ranged;
-use terms::{Answer, Counters};
+use terms::{Answer, Counters, Refusal};
 
 // The whole call: one of many steps. No key is looked for in the pair lent to it.
+#[tactic(auto, using(crate::proofs::Single::one_of_many, crate::proofs::Ways::step_silent))]
 fn fully(
     nodes: &mut [u32],
     entries: &mut [u32],
@@ -30,11 +29,11 @@ fn fully(
         ≡ step_call small nodes.old entries.old words.old answer.old
         who }
 {
-    if answer.len() == 3 {
-        let mut pair = [0; 2];
-        return calling::many(nodes, entries, words, &mut pair, answer, who, 1);
+    if answer.len() != 3 {
+        return u32::from(Refusal::BadTable);
     }
-    7
+    let mut pair = [0; 2];
+    calling::many(nodes, entries, words, &mut pair, answer, who, 1)
 }
 
 // Puts what a short way tells: the two words that change, and the answer, which is no refusal.
@@ -56,6 +55,7 @@ pub fn go(
     0
 }
 
+#[tactic(auto, using(crate::proofs::Short::leads_shortly, crate::proofs::Short::hands_shortly))]
 fn ranging(
     nodes: &mut [u32],
     entries: &mut [u32],
@@ -70,18 +70,19 @@ fn ranging(
 {
     let w = packing::record_at(words, who);
     match shortly::range(nodes, entries, w) {
-        Ranged::Leads(phase, to) => {
-            let reply = packing::say(Answer::Working);
+        Some(Ranged::Leads(phase, to)) => {
+            let reply = Reply::from(Answer::Working);
             go(words, answer, who, PHASE, phase, A, to, reply)
         }
-        Ranged::Hands(handed, key, value) => {
-            let reply = packing::say(Answer::Key(key, value));
+        Some(Ranged::Hands(handed, key, value)) => {
+            let reply = Reply::from(Answer::Key(key, value));
             go(words, answer, who, PHASE, 11, C, handed, reply)
         }
-        Ranged::Long => fully(nodes, entries, words, answer, who),
+        None => fully(nodes, entries, words, answer, who),
     }
 }
 
+#[tactic(auto, using(crate::proofs::Short::advances_fully))]
 fn updating(
     nodes: &mut [u32],
     entries: &mut [u32],
@@ -96,12 +97,13 @@ fn updating(
 {
     let o = packing::op_at(words, who);
     let p = packing::phase_at(words, who);
-    let phase = advancing::advance(nodes, who, o, p);
-    if phase == 0 {
-        return fully(nodes, entries, words, answer, who);
+    match advancing::advance(nodes, who, o, p) {
+        Some(phase) => {
+            let reply = Reply::from(Answer::Working);
+            go(words, answer, who, PHASE, phase, A, p.a, reply)
+        }
+        None => fully(nodes, entries, words, answer, who),
     }
-    let reply = packing::say(Answer::Working);
-    go(words, answer, who, PHASE, phase, A, p.a, reply)
 }
 
 // Puts other counters, another record and the answer, which is no refusal.
@@ -122,6 +124,7 @@ fn settle(
     0
 }
 
+#[tactic(auto, using(crate::proofs::Short::numbers_shortly))]
 fn numbering(
     nodes: &mut [u32],
     entries: &mut [u32],
@@ -137,45 +140,19 @@ fn numbering(
     let c = packing::counters_at(words);
     let o = packing::op_at(words, who);
     let p = packing::phase_at(words, who);
-    let n = closing::number(c.stamp, o, p);
-    if n == 0 {
-        return fully(nodes, entries, words, answer, who);
+    match closing::number(c.stamp, o, p) {
+        Some(stamp) => {
+            let raised = Counters { stamp, ..c };
+            let phase = PhaseWords {
+                phase: 7,
+                e: stamp,
+                ..p
+            };
+            let w = Words { op: o, phase };
+            settle(words, answer, who, raised, w, Reply::from(Answer::Working))
+        }
+        None => fully(nodes, entries, words, answer, who),
     }
-    let raised = Counters {
-        nodes: c.nodes,
-        entries: c.entries,
-        stamp: n,
-    };
-    let phase = PhaseWords {
-        phase: 7,
-        a: p.a,
-        b: p.b,
-        c: p.c,
-        d: p.d,
-        e: n,
-    };
-    let w = Words { op: o, phase };
-    let reply = packing::say(Answer::Working);
-    settle(words, answer, who, raised, w, reply)
-}
-
-fn idle_words() -> Words
-    ensures { result ≡ encode idle }
-{
-    let op = OpWords {
-        kind: 0,
-        first: 0,
-        second: 0,
-    };
-    let phase = PhaseWords {
-        phase: 0,
-        a: 0,
-        b: 0,
-        c: 0,
-        d: 0,
-        e: 0,
-    };
-    Words { op, phase }
 }
 
 fn end_update(words: &mut [u32], answer: &mut [u32], who: u32, removes: bool, number: u32) -> u32
@@ -183,12 +160,12 @@ fn end_update(words: &mut [u32], answer: &mut [u32], who: u32, removes: bool, nu
         ≡ ended words.old answer.old who removes number }
 {
     let c = packing::counters_at(words);
-    let w = idle_words();
-    let given = closing::answer(removes, number);
-    let reply = packing::say(given);
-    settle(words, answer, who, c, w, reply)
+    let reply = Reply::from(closing::answer(removes, number));
+    let idle = Words::default();
+    settle(words, answer, who, c, idle, reply)
 }
 
+#[tactic(auto, using(crate::proofs::Short::finishes_fully))]
 fn finishing(
     nodes: &mut [u32],
     entries: &mut [u32],
@@ -221,17 +198,12 @@ fn by_phase(
         ≡ step_call small nodes.old entries.old words.old answer.old
         who }
 {
-    let phase = packing::phase_number(words, who);
-    if 11 <= phase {
-        return ranging(nodes, entries, words, answer, who);
+    match packing::phase_number(words, who) {
+        6 => numbering(nodes, entries, words, answer, who),
+        8 => finishing(nodes, entries, words, answer, who),
+        11.. => ranging(nodes, entries, words, answer, who),
+        _ => updating(nodes, entries, words, answer, who),
     }
-    if phase == 6 {
-        return numbering(nodes, entries, words, answer, who);
-    }
-    if phase == 8 {
-        return finishing(nodes, entries, words, answer, who);
-    }
-    updating(nodes, entries, words, answer, who)
 }
 
 // Every step but a walk's that moves on: it compiles to a function of its own, so that such a walk saves no registers
@@ -248,12 +220,8 @@ pub fn otherwise(
         ≡ step_call small nodes.old entries.old words.old answer.old
         who }
 {
-    if answer.len() == 3 {
-        if calling::right_lengths(nodes, entries, words) {
-            if who < 16 {
-                return by_phase(nodes, entries, words, answer, who);
-            }
-        }
+    if answer.len() == 3 && calling::right_lengths(nodes, entries, words) && who < 16 {
+        return by_phase(nodes, entries, words, answer, who);
     }
     fully(nodes, entries, words, answer, who)
 }

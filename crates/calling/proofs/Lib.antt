@@ -1,2 +1,0 @@
--- Each way through the checks and many steps.
-pub mod Ways
