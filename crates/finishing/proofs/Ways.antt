@@ -1,12 +1,12 @@
--- Each way out of Number, Link and Finish, over plain values: what the code read and tested, and what the step then
--- is.
+-- Ways out of Number, Link and Finish where no test fails, over plain values: what was read and tested, and what the step
+-- then is. The crates above cite them.
 -- In order: Number; Link; Finish. Assumes nothing.
-use Prim.Native.Nat.{ℕ, ◌+◌, ◌≤◌, ◌<◌}
+use Prim.Native.Nat.{ℕ, ◌+◌, ◌<◌}
 use mathlib.Core.Path.{◌≡◌}
 use mathlib.Core.List.{List}
 use mathlib.Core.Bool.{Bool, true, false}
 use lib.Dec.{ltb}
-use borrow.Author.Tests.{lt-ltb, le-ltb}
+use borrow.Author.Tests.{lt-ltb}
 use Rattle.bundle.specs.Bundle.{finish_of}
 use Rattle.nodes.specs.Nodes.{put_node, next_at, unlocked_both}
 use Rattle.terms.specs.Terms.{removes_of}
@@ -16,46 +16,23 @@ use Rattle.terms.specs.declared.Op.{Op}
 use Rattle.terms.specs.declared.Answer.{Answer}
 use Rattle.steps.specs.declared.Phase.{Phase}
 use Rattle.steps.specs.declared.Stepped.{Stepped}
-use Rattle.steps.specs.Steps.{Done, done, Moved, moved, works, ends, damaged, raised, number_step, insert_link}
+use Rattle.steps.specs.Steps.{done, Moved, moved, works, ends, raised, number_step, insert_link}
 use Rattle.steps.specs.Steps.{remove_link, link_step, finished_of, usable, finish_step}
 
 -- ---- Number
 module _ (z : Size) (c : Counters) (op : Op) (pred node lower upper : ℕ) (r : Stepped) where
-  pub number_many : z.updates ≤ c.stamp → r ≡ damaged c op (Phase.Number pred node lower upper)
-      → r ≡ number_step z c op pred node lower upper
-  unfolding number_step
-  number_many many e = rw (le-ltb _ _ many, e)
-
   pub numbers : c.stamp < z.updates → r ≡ works (raised c) op (Phase.Link pred node lower upper (c.stamp + 1))
       → r ≡ number_step z c op pred node lower upper
   unfolding number_step
   numbers few e = rw (lt-ltb _ _ few, e)
 
-pub ruleset numbered = (number_many, numbers)
-
 -- ---- Link
 module _ (z : Size) (ns : List ℕ) (c : Counters) (op : Op) (pred node lower upper number : ℕ) where
-  pub insert_past : (r : Stepped) → z.nodes ≤ pred → r ≡ damaged c op (Phase.Link pred node lower upper number)
-      → moved ns r ≡ insert_link z ns c op pred node lower upper number
-  unfolding insert_link
-  insert_past r past e = rw (le-ltb _ _ past, e)
-
   pub insert_links : (r : Stepped) (ns' : List ℕ) → pred < z.nodes → ns' ≡ put_node ns pred 2 node
       → r ≡ works c op (Phase.Finish pred node lower upper number)
       → moved ns' r ≡ insert_link z ns c op pred node lower upper number
   unfolding insert_link
   insert_links r ns' in_table p e = rw (lt-ltb _ _ in_table, p, e)
-
-  pub remove_past : (r : Stepped) → z.nodes ≤ pred → r ≡ damaged c op (Phase.Link pred node lower upper number)
-      → moved ns r ≡ remove_link z ns c op pred node lower upper number
-  unfolding remove_link
-  remove_past r past e = rw (le-ltb _ _ past, e)
-
-  pub remove_node_past : (r : Stepped) → pred < z.nodes → z.nodes ≤ node
-      → r ≡ damaged c op (Phase.Link pred node lower upper number)
-      → moved ns r ≡ remove_link z ns c op pred node lower upper number
-  unfolding remove_link
-  remove_node_past r in_table past e = rw (lt-ltb _ _ in_table, le-ltb _ _ past, e)
 
   pub remove_links : (r : Stepped) (n : ℕ) (ns₁ ns₂ : List ℕ) → pred < z.nodes → node < z.nodes → n ≡ next_at ns node
       → ns₁ ≡ put_node ns node 4 1 → ns₂ ≡ put_node ns₁ pred 2 n
@@ -75,47 +52,16 @@ module _ (z : Size) (ns : List ℕ) (c : Counters) (op : Op) (pred node lower up
     unfolding link_step
     link_insert h e = rw (← test, h, e)
 
-pub ruleset insert_linked = (insert_past, insert_links)
-
-pub ruleset remove_linked = (remove_past, remove_node_past, remove_links)
-
-pub ruleset linked = (link_remove, link_insert)
-
 -- ---- Finish
-module _ (op : Op) (number : ℕ) (b : Bool) (test : b ≡ removes_of op) where
-  pub finished_remove : b ≡ true → Answer.Removed number ≡ finished_of op number
-  finished_remove h = rw (← test, h)
-
-  pub finished_insert : b ≡ false → Answer.Inserted number ≡ finished_of op number
-  finished_insert h = rw (← test, h)
-
-pub ruleset answered = (finished_remove, finished_insert)
-
-module _ (z : Size) (op : Op) (pred node lower upper : ℕ) where
-  pub usable_lower : z.entries ≤ lower → false ≡ usable z op pred node lower upper
+module _ (z : Size) (op : Op) (pred node lower upper : ℕ) (lower_in : lower < z.entries)
+    (upper_in : upper < z.entries) (pred_in : pred < z.nodes) (b : Bool) (test : b ≡ removes_of op) where
+  pub usable_remove : b ≡ true → ltb node z.nodes ≡ usable z op pred node lower upper
   unfolding usable
-  usable_lower past = rw (le-ltb _ _ past)
+  usable_remove h = rw (lt-ltb _ _ lower_in, lt-ltb _ _ upper_in, lt-ltb _ _ pred_in, ← test, h)
 
-  module _ (lower_in : lower < z.entries) where
-    pub usable_upper : z.entries ≤ upper → false ≡ usable z op pred node lower upper
-    unfolding usable
-    usable_upper past = rw (lt-ltb _ _ lower_in, le-ltb _ _ past)
-
-    module _ (upper_in : upper < z.entries) where
-      pub usable_pred : z.nodes ≤ pred → false ≡ usable z op pred node lower upper
-      unfolding usable
-      usable_pred past = rw (lt-ltb _ _ lower_in, lt-ltb _ _ upper_in, le-ltb _ _ past)
-
-      module _ (pred_in : pred < z.nodes) (b : Bool) (test : b ≡ removes_of op) where
-        pub usable_remove : b ≡ true → ltb node z.nodes ≡ usable z op pred node lower upper
-        unfolding usable
-        usable_remove h = rw (lt-ltb _ _ lower_in, lt-ltb _ _ upper_in, lt-ltb _ _ pred_in, ← test, h)
-
-        pub usable_insert : b ≡ false → true ≡ usable z op pred node lower upper
-        unfolding usable
-        usable_insert h = rw (lt-ltb _ _ lower_in, lt-ltb _ _ upper_in, lt-ltb _ _ pred_in, ← test, h)
-
-pub ruleset is_usable_ways = (usable_lower, usable_upper, usable_pred, usable_remove, usable_insert)
+  pub usable_insert : b ≡ false → true ≡ usable z op pred node lower upper
+  unfolding usable
+  usable_insert h = rw (lt-ltb _ _ lower_in, lt-ltb _ _ upper_in, lt-ltb _ _ pred_in, ← test, h)
 
 module _ (z : Size) (ns es : List ℕ) (c : Counters) (op : Op) (pred node lower upper number : ℕ) (b : Bool)
     (test : b ≡ usable z op pred node lower upper) (r : Stepped) where
@@ -125,10 +71,3 @@ module _ (z : Size) (ns es : List ℕ) (c : Counters) (op : Op) (pred node lower
       → done ns' es₂ r ≡ finish_step z ns es c op pred node lower upper number
   unfolding finish_step
   finishes ns' es₁ es₂ two a h p q w u k e = rw (← test, h, e, k, u, w, q, p)
-
-  pub finish_broken : b ≡ false → r ≡ damaged c op (Phase.Finish pred node lower upper number)
-      → done ns es r ≡ finish_step z ns es c op pred node lower upper number
-  unfolding finish_step
-  finish_broken h e = rw (← test, h, e)
-
-pub ruleset finished = (finishes, finish_broken)

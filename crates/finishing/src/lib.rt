@@ -16,42 +16,42 @@ ghost use Rattle.steps.specs.Steps.{
 };
 
 use nodes::{NEXT, REMOVED};
-use steps::{Phase, Stepped};
-use terms::{Answer, Counters, Op, Refusal, Size};
+use steps::{Phase, Stepped, Task};
+use terms::{Answer, Counters, Op};
 
-pub fn number(z: Size, c: Counters, op: Op, pred: u32, node: u32, lower: u32, upper: u32) -> Stepped
-    ensures { result ≡ number_step z c op pred node lower upper }
+#[tactic(auto, unfolding(steps::specs::Steps::number_step))]
+pub fn number(task: Task, pred: u32, node: u32, lower: u32, upper: u32) -> Stepped
+    ensures { result ≡ number_step task.size task.counters task.op pred node lower upper }
 {
-    let stamp = c.stamp;
-    if z.updates <= stamp {
-        let here = Phase::Number {
+    let stamp = task.counters.stamp;
+    if task.size.updates <= stamp {
+        return task.damaged(Phase::Number {
             pred,
             node,
             lower,
             upper,
-        };
-        return steps::refuse(c, op, here, Refusal::Damaged);
+        });
     }
-    let raised = Counters {
-        nodes: c.nodes,
-        entries: c.entries,
-        stamp: stamp + 1,
+    let raised = Task {
+        counters: Counters {
+            stamp: stamp + 1,
+            ..task.counters
+        },
+        ..task
     };
-    let then = Phase::Link {
+    raised.work(Phase::Link {
         pred,
         node,
         lower,
         upper,
         number: stamp + 1,
-    };
-    steps::work(raised, op, then)
+    })
 }
 
-fn link_insert(
-    z: Size,
+#[tactic(auto, unfolding(steps::specs::Steps::link_step, steps::specs::Steps::insert_link, steps::specs::Steps::remove_link))]
+pub fn link(
+    task: Task,
     nodes: &mut [u32],
-    c: Counters,
-    op: Op,
     pred: u32,
     node: u32,
     lower: u32,
@@ -59,42 +59,7 @@ fn link_insert(
     number: u32,
 ) -> Stepped
     ensures { moved nodes.new result
-        ≡ insert_link z nodes.old c op pred node lower upper number }
-{
-    if z.nodes <= pred {
-        let here = Phase::Link {
-            pred,
-            node,
-            lower,
-            upper,
-            number,
-        };
-        return steps::refuse(c, op, here, Refusal::Damaged);
-    }
-    nodes::put(nodes, pred, NEXT, node);
-    let then = Phase::Finish {
-        pred,
-        node,
-        lower,
-        upper,
-        number,
-    };
-    steps::work(c, op, then)
-}
-
-fn link_remove(
-    z: Size,
-    nodes: &mut [u32],
-    c: Counters,
-    op: Op,
-    pred: u32,
-    node: u32,
-    lower: u32,
-    upper: u32,
-    number: u32,
-) -> Stepped
-    ensures { moved nodes.new result
-        ≡ remove_link z nodes.old c op pred node lower upper number }
+        ≡ link_step task.size nodes.old task.counters task.op pred node lower upper number }
 {
     let here = Phase::Link {
         pred,
@@ -103,15 +68,6 @@ fn link_remove(
         upper,
         number,
     };
-    if z.nodes <= pred {
-        return steps::refuse(c, op, here, Refusal::Damaged);
-    }
-    if z.nodes <= node {
-        return steps::refuse(c, op, here, Refusal::Damaged);
-    }
-    let next = nodes::node(nodes, node, NEXT);
-    nodes::put(nodes, node, REMOVED, 1);
-    nodes::put(nodes, pred, NEXT, next);
     let then = Phase::Finish {
         pred,
         node,
@@ -119,27 +75,18 @@ fn link_remove(
         upper,
         number,
     };
-    steps::work(c, op, then)
-}
-
-pub fn link(
-    z: Size,
-    nodes: &mut [u32],
-    c: Counters,
-    op: Op,
-    pred: u32,
-    node: u32,
-    lower: u32,
-    upper: u32,
-    number: u32,
-) -> Stepped
-    ensures { moved nodes.new result
-        ≡ link_step z nodes.old c op pred node lower upper number }
-{
-    if terms::removes(op) {
-        return link_remove(z, nodes, c, op, pred, node, lower, upper, number);
+    let removes = terms::removes(task.op);
+    if task.size.nodes <= pred || removes && task.size.nodes <= node {
+        return task.damaged(here);
     }
-    link_insert(z, nodes, c, op, pred, node, lower, upper, number)
+    if removes {
+        let next = nodes::node(nodes, node, NEXT);
+        nodes::put(nodes, node, REMOVED, 1);
+        nodes::put(nodes, pred, NEXT, next);
+    } else {
+        nodes::put(nodes, pred, NEXT, node);
+    }
+    task.work(then)
 }
 
 fn finished(op: Op, number: u32) -> Answer
@@ -152,30 +99,22 @@ fn finished(op: Op, number: u32) -> Answer
 }
 
 // Whether all that Finish uses lies in the tables.
-fn is_usable(z: Size, op: Op, pred: u32, node: u32, lower: u32, upper: u32) -> bool
-    ensures { result ≡ usable z op pred node lower upper }
+#[tactic(auto, unfolding(steps::specs::Steps::usable))]
+fn is_usable(task: Task, pred: u32, node: u32, lower: u32, upper: u32) -> bool
+    ensures { result ≡ usable task.size task.op pred node lower upper }
 {
-    if z.entries <= lower {
-        return false;
-    }
-    if z.entries <= upper {
-        return false;
-    }
-    if z.nodes <= pred {
-        return false;
-    }
-    if terms::removes(op) {
-        return node < z.nodes;
-    }
-    true
+    let size = task.size;
+    lower < size.entries
+        && upper < size.entries
+        && pred < size.nodes
+        && (!terms::removes(task.op) || node < size.nodes)
 }
 
+#[tactic(auto, unfolding(steps::specs::Steps::finish_step))]
 pub fn finish(
-    z: Size,
+    task: Task,
     nodes: &mut [u32],
     entries: &mut [u32],
-    c: Counters,
-    op: Op,
     pred: u32,
     node: u32,
     lower: u32,
@@ -183,20 +122,20 @@ pub fn finish(
     number: u32,
 ) -> Stepped
     ensures { done nodes.new entries.new result
-        ≡ finish_step z nodes.old entries.old c op pred node lower upper number }
+        ≡ finish_step task.size nodes.old entries.old task.counters task.op pred node lower upper
+        number }
 {
-    if is_usable(z, op, pred, node, lower, upper) {
+    if is_usable(task, pred, node, lower, upper) {
         bundle::finish(entries, lower, number);
         bundle::finish(entries, upper, number);
-        nodes::unlock_both(nodes, pred, node, terms::removes(op));
-        return steps::end(c, finished(op, number));
+        nodes::unlock_both(nodes, pred, node, terms::removes(task.op));
+        return task.end(finished(task.op, number));
     }
-    let here = Phase::Finish {
+    task.damaged(Phase::Finish {
         pred,
         node,
         lower,
         upper,
         number,
-    };
-    steps::refuse(c, op, here, Refusal::Damaged)
+    })
 }

@@ -6,66 +6,58 @@
 ghost use Rattle.std.specs.Prelude.{◌≡◌, ◌<◌};
 ghost use Rattle.steps.specs.Steps.{done, act_step};
 
-use steps::{Phase, Stepped};
-use terms::{Counters, Op, Refusal, Size};
+use steps::{Phase, Stepped, Task};
+use terms::Refusal;
 
-pub fn act(
-    z: Size,
-    nodes: &mut [u32],
-    entries: &mut [u32],
-    c: Counters,
-    who: u32,
-    op: Op,
-    phase: Phase,
-) -> Stepped
+pub fn act(task: Task, nodes: &mut [u32], entries: &mut [u32], who: u32, phase: Phase) -> Stepped
     requires { who < 16 }
     ensures { done nodes.new entries.new result
-        ≡ act_step z nodes.old entries.old c who op phase }
+        ≡ act_step task.size nodes.old entries.old task.counters who task.op phase }
 {
     match phase {
-        Phase::Idle => steps::refuse(c, op, phase, Refusal::Idle),
-        Phase::Walk { pred, curr } => reading::walk(z, nodes, c, op, pred, curr),
+        Phase::Idle => task.refuse(phase, Refusal::Idle),
+        Phase::Walk { pred, curr } => reading::walk(task, nodes, pred, curr),
         Phase::Lock { pred, curr } => {
-            let then = steps::locked(op, pred, curr);
-            locking::lock(z, nodes, c, who, op, pred, phase, then)
+            let then = steps::locked(task.op, pred, curr);
+            locking::lock(task, nodes, who, pred, phase, then)
         }
         Phase::LockCurr { pred, curr } => {
             let then = Phase::Check { pred, curr };
-            locking::lock(z, nodes, c, who, op, curr, phase, then)
+            locking::lock(task, nodes, who, curr, phase, then)
         }
-        Phase::Check { pred, curr } => locking::check(z, nodes, c, op, pred, curr),
-        Phase::Prepare { pred, curr } => preparing::prepare(z, nodes, entries, c, op, pred, curr),
+        Phase::Check { pred, curr } => locking::check(task, nodes, pred, curr),
+        Phase::Prepare { pred, curr } => preparing::prepare(task, nodes, entries, pred, curr),
         Phase::Number {
             pred,
             node,
             lower,
             upper,
-        } => finishing::number(z, c, op, pred, node, lower, upper),
+        } => finishing::number(task, pred, node, lower, upper),
         Phase::Link {
             pred,
             node,
             lower,
             upper,
             number,
-        } => finishing::link(z, nodes, c, op, pred, node, lower, upper, number),
+        } => finishing::link(task, nodes, pred, node, lower, upper, number),
         Phase::Finish {
             pred,
             node,
             lower,
             upper,
             number,
-        } => finishing::finish(z, nodes, entries, c, op, pred, node, lower, upper, number),
-        Phase::Newest { at } => reading::newest(z, nodes, entries, c, op, at),
-        Phase::Fix { pred } => reading::fix(c, op, pred),
+        } => finishing::finish(task, nodes, entries, pred, node, lower, upper, number),
+        Phase::Newest { at } => reading::newest(task, nodes, entries, at),
+        Phase::Fix { pred } => reading::fix(task, pred),
         Phase::Follow {
             at,
             snapshot,
             handed,
-        } => reading::follow(z, nodes, entries, c, op, at, snapshot, handed),
+        } => reading::follow(task, nodes, entries, at, snapshot, handed),
         Phase::Hand {
             at,
             snapshot,
             handed,
-        } => reading::hand(z, nodes, c, op, at, snapshot, handed),
+        } => reading::hand(task, nodes, at, snapshot, handed),
     }
 }

@@ -1,11 +1,12 @@
--- Each way out of Lock and Check, over plain values: what the code read and tested, and what the step then is.
--- In order: Lock; unlocking; an insert's Check; a remove's Check; Check. Assumes nothing.
-use Prim.Native.Nat.{ℕ, ◌+◌, ◌≤◌, ◌<◌}
+-- Ways out of Lock and Check where nothing is damaged, over plain values: what was read and tested, and what the step
+-- then is. The crates above cite them.
+-- In order: Lock; an insert's Check; a remove's Check; Check. Assumes nothing.
+use Prim.Native.Nat.{ℕ, ◌+◌, ◌<◌}
 use mathlib.Core.Path.{◌≡◌}
 use mathlib.Core.List.{List}
 use mathlib.Core.Bool.{Bool, true, false}
 use lib.Dec.{eqb}
-use borrow.Author.Tests.{lt-ltb, le-ltb, eq-eqb, ne_eqb}
+use borrow.Author.Tests.{lt-ltb, eq-eqb, ne_eqb}
 use Rattle.nodes.specs.Nodes.{put_node, key_at, next_at, lock_at, removed_at, unlocked_both}
 use Rattle.terms.specs.Terms.{sought_of, removes_of}
 use Rattle.terms.specs.declared.Size.{Size}
@@ -14,49 +15,23 @@ use Rattle.terms.specs.declared.Op.{Op}
 use Rattle.terms.specs.declared.Answer.{Answer}
 use Rattle.steps.specs.declared.Phase.{Phase}
 use Rattle.steps.specs.declared.Stepped.{Stepped}
-use Rattle.steps.specs.Steps.{Moved, moved, works, waits, ends, damaged, free, again_of, linked_of, lock_step}
+use Rattle.steps.specs.Steps.{Moved, moved, works, waits, ends, free, again_of, linked_of, lock_step}
 use Rattle.steps.specs.Steps.{insert_meets, insert_check, remove_check, check_step}
 
 -- ---- Lock
-pub free_none : (who w : ℕ) → w ≡ 0 → true ≡ free who w
-unfolding free
-free_none who w h = simp (eq-eqb w 0 h)
-
-pub free_own : (who w : ℕ) → (w ≡ 0 → ⊥) → eqb w (who + 1) ≡ free who w
-unfolding free
-free_own who w h = simp (ne_eqb w 0 h)
-
 module _ (z : Size) (ns : List ℕ) (c : Counters) (who : ℕ) (op : Op) (node : ℕ) (here then : Phase) (r : Stepped)
-  where
-    pub lock_past : z.nodes ≤ node → r ≡ damaged c op here → moved ns r ≡ lock_step z ns c who op node here then
-    unfolding lock_step
-    lock_past past e = rw (le-ltb _ _ past, e)
+    (w : ℕ) (b : Bool) (in_table : node < z.nodes) (word : w ≡ lock_at ns node) (test : b ≡ free who w) where
+  pub lock_takes : (ns' : List ℕ) → b ≡ true → ns' ≡ put_node ns node 3 (who + 1) → r ≡ works c op then
+      → moved ns' r ≡ lock_step z ns c who op node here then
+  unfolding lock_step
+  lock_takes ns' h p e = rw (lt-ltb _ _ in_table, ← word, ← test, h, e, p)
 
-    module _ (w : ℕ) (b : Bool) (in_table : node < z.nodes) (word : w ≡ lock_at ns node) (test : b ≡ free who w) where
-      pub lock_takes : (ns' : List ℕ) → b ≡ true → ns' ≡ put_node ns node 3 (who + 1) → r ≡ works c op then
-          → moved ns' r ≡ lock_step z ns c who op node here then
-      unfolding lock_step
-      lock_takes ns' h p e = rw (lt-ltb _ _ in_table, ← word, ← test, h, e, p)
-
-      pub lock_waits : b ≡ false → r ≡ waits c op here → moved ns r ≡ lock_step z ns c who op node here then
-      unfolding lock_step
-      lock_waits h e = rw (lt-ltb _ _ in_table, ← word, ← test, h, e)
-
-pub ruleset locked = (free_none, free_own, lock_past, lock_takes, lock_waits)
-
--- ---- unlocking, and walking again
-pub walks_again : (ns ns' : List ℕ) (c : Counters) (op : Op) (pred curr n : ℕ) (both : Bool) (r : Stepped)
-    → n ≡ next_at ns 0 → ns' ≡ unlocked_both ns pred curr both → r ≡ works c op (Phase.Walk 0 n)
-    → moved ns' r ≡ moved (unlocked_both ns pred curr both) (works c op (again_of ns))
-walks_again ns ns' c op pred curr n both r hn p e = rw (e, p, hn)
+  pub lock_waits : b ≡ false → r ≡ waits c op here → moved ns r ≡ lock_step z ns c who op node here then
+  unfolding lock_step
+  lock_waits h e = rw (lt-ltb _ _ in_table, ← word, ← test, h, e)
 
 -- ---- an insert's Check
 module _ (z : Size) (ns : List ℕ) (c : Counters) (op : Op) (pred curr : ℕ) where
-  pub insert_past : (r : Stepped) → z.nodes ≤ pred → r ≡ damaged c op (Phase.Check pred curr)
-      → moved ns r ≡ insert_check z ns c op pred curr
-  unfolding insert_check
-  insert_past r past e = rw (le-ltb _ _ past, e)
-
   module _ (m : ℕ) (in_table : pred < z.nodes) (mark : m ≡ removed_at ns pred) where
     pub insert_removed : (d : Moved) → (m ≡ 0 → ⊥)
         → d ≡ moved (unlocked_both ns pred curr false) (works c op (again_of ns))
@@ -76,11 +51,6 @@ module _ (z : Size) (ns : List ℕ) (c : Counters) (op : Op) (pred curr : ℕ) w
       unfolding insert_check
       insert_stands d linked e = rw (lt-ltb _ _ in_table, ← mark, eq-eqb m 0 stays, ← next, eq-eqb n curr linked, e)
 
-  pub meet_past : (r : Stepped) → z.nodes ≤ curr → r ≡ damaged c op (Phase.Check pred curr)
-      → moved ns r ≡ insert_meets z ns c op pred curr
-  unfolding insert_meets
-  meet_past r past e = rw (le-ltb _ _ past, e)
-
   module _ (k s : ℕ) (curr_in : curr < z.nodes) (key : k ≡ key_at ns curr) (sought : s ≡ sought_of op) where
     pub meet_present : (d : Moved) → k ≡ s → d ≡ moved (unlocked_both ns pred curr false) (ends c Answer.Present)
         → d ≡ insert_meets z ns c op pred curr
@@ -91,10 +61,6 @@ module _ (z : Size) (ns : List ℕ) (c : Counters) (op : Op) (pred curr : ℕ) w
         → moved ns r ≡ insert_meets z ns c op pred curr
     unfolding insert_meets
     meet_goes r other e = rw (lt-ltb _ _ curr_in, ← key, ← sought, ne_eqb k s other, e)
-
-pub ruleset insert_checked = (insert_past, insert_removed, insert_moved, insert_stands)
-
-pub ruleset met = (meet_past, meet_present, meet_goes)
 
 -- ---- a remove's Check
 module _ (ns : List ℕ) (pred curr m : ℕ) (mark : m ≡ removed_at ns pred) where
@@ -111,19 +77,7 @@ module _ (ns : List ℕ) (pred curr m : ℕ) (mark : m ≡ removed_at ns pred) w
     unfolding linked_of
     linked_next n stays' next = rw (← mark, eq-eqb m 0 stays, ← mark', eq-eqb m' 0 stays', next)
 
-pub ruleset linked = (linked_pred_gone, linked_curr_gone, linked_next)
-
 module _ (z : Size) (ns : List ℕ) (c : Counters) (op : Op) (pred curr : ℕ) where
-  pub remove_past : (r : Stepped) → z.nodes ≤ pred → r ≡ damaged c op (Phase.Check pred curr)
-      → moved ns r ≡ remove_check z ns c op pred curr
-  unfolding remove_check
-  remove_past r past e = rw (le-ltb _ _ past, e)
-
-  pub remove_curr_past : (r : Stepped) → pred < z.nodes → z.nodes ≤ curr → r ≡ damaged c op (Phase.Check pred curr)
-      → moved ns r ≡ remove_check z ns c op pred curr
-  unfolding remove_check
-  remove_curr_past r in_table past e = rw (lt-ltb _ _ in_table, le-ltb _ _ past, e)
-
   module _ (b : Bool) (pred_in : pred < z.nodes) (curr_in : curr < z.nodes) (test : b ≡ linked_of ns pred curr) where
     pub remove_again : (d : Moved) → b ≡ false → d ≡ moved (unlocked_both ns pred curr true) (works c op (again_of ns))
         → d ≡ remove_check z ns c op pred curr
@@ -144,8 +98,6 @@ module _ (z : Size) (ns : List ℕ) (c : Counters) (op : Op) (pred curr : ℕ) w
       remove_absent d other e =
           rw (lt-ltb _ _ pred_in, lt-ltb _ _ curr_in, ← test, stands, ← key, ← sought, ne_eqb k s other, e)
 
-pub ruleset remove_checked = (remove_past, remove_curr_past, remove_again, remove_goes, remove_absent)
-
 -- ---- Check, by the operation
 module _ (z : Size) (ns : List ℕ) (c : Counters) (op : Op) (pred curr : ℕ) (b : Bool) (test : b
     ≡ removes_of op) (d : Moved) where
@@ -156,5 +108,3 @@ module _ (z : Size) (ns : List ℕ) (c : Counters) (op : Op) (pred curr : ℕ) (
   pub check_insert : b ≡ false → d ≡ insert_check z ns c op pred curr → d ≡ check_step z ns c op pred curr
   unfolding check_step
   check_insert h e = rw (← test, h, e)
-
-pub ruleset checked = (check_remove, check_insert)

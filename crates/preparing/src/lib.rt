@@ -4,6 +4,7 @@
 #![tactic(auto)]
 
 ghost use Rattle.std.specs.Prelude.{◌≡◌, ◌+◌, ◌<◌, ◌≤◌};
+ghost use Rattle.steps.specs.declared.Phase.{Phase};
 ghost use Rattle.steps.specs.Steps.{
   done,
   tables,
@@ -14,37 +15,38 @@ ghost use Rattle.steps.specs.Steps.{
   remove_room,
   held_at,
   held_either,
-  insert_prepare,
-  remove_prepare,
   prepare_step,
+  works,
+  counted,
 };
 
 use bundle::Held;
 use nodes::{NEWEST, NEXT};
-use steps::{Phase, Stepped};
-use terms::{Answer, Counters, Op, Refusal, Size};
+use steps::{Phase, Stepped, Task};
+use terms::{Answer, Counters, Refusal, Size};
 
 // Whether the newest entry of a node's bundle is pending.
-fn held_at(z: Size, nodes: &[u32], entries: &[u32], node: u32) -> Result<(), Held>
-    ensures { result ≡ held_at z nodes.now entries.now node }
+#[tactic(auto, unfolding(steps::specs::Steps::held_at))]
+fn held_at(size: Size, nodes: &[u32], entries: &[u32], node: u32) -> Result<(), Held>
+    ensures { result ≡ held_at size nodes.now entries.now node }
 {
-    if z.nodes <= node {
+    if size.nodes <= node {
         return Err(Held::Damaged);
     }
-    let size = z.entries;
     let link = nodes::node(nodes, node, NEWEST);
-    bundle::newest_held(entries, size, link)
+    bundle::newest_held(entries, size.entries, link)
 }
 
 // Of pred's bundle, and then of curr's.
-fn held_either(z: Size, nodes: &[u32], entries: &[u32], pred: u32, curr: u32) -> Result<(), Held>
-    ensures { result ≡ held_either z nodes.now entries.now pred curr }
+fn held_either(size: Size, nodes: &[u32], entries: &[u32], pred: u32, curr: u32) -> Result<(), Held>
+    ensures { result ≡ held_either size nodes.now entries.now pred curr }
 {
-    held_at(z, nodes, entries, pred)?;
-    held_at(z, nodes, entries, curr)
+    held_at(size, nodes, entries, pred)?;
+    held_at(size, nodes, entries, curr)
 }
 
 // Entry e, pending, to the target, in front of the node's bundle.
+#[tactic(auto, unfolding(steps::specs::Steps::lay_in))]
 fn lay_in(nodes: &mut [u32], entries: &mut [u32], node: u32, e: u32, target: u32, stamp: u32)
     requires { e < 4294967295 }
     ensures { tables nodes.new entries.new
@@ -56,167 +58,108 @@ fn lay_in(nodes: &mut [u32], entries: &mut [u32], node: u32, e: u32, target: u32
 }
 
 // The new node between pred and curr, then the entry in pred to it, then its own to curr.
-fn lay_insert(nodes: &mut [u32], entries: &mut [u32], c: Counters, op: Op, pred: u32, curr: u32)
-    requires { c.entries + 2 ≤ 4294967295 }
+#[tactic(auto, unfolding(steps::specs::Steps::insert_laid))]
+fn lay_insert(task: Task, nodes: &mut [u32], entries: &mut [u32], pred: u32, curr: u32)
+    requires { task.counters.entries + 2 ≤ 4294967295 }
     ensures { tables nodes.new entries.new
-        ≡ insert_laid nodes.old entries.old c op pred curr }
+        ≡ insert_laid nodes.old entries.old task.counters task.op pred curr }
 {
-    let n = c.nodes;
-    let e = c.entries;
-    let stamp = c.stamp;
-    let key = terms::sought(op);
-    let value = terms::value(op);
+    let n = task.counters.nodes;
+    let e = task.counters.entries;
+    let stamp = task.counters.stamp;
+    let key = terms::sought(task.op);
+    let value = terms::value(task.op);
     nodes::new_node(nodes, n, key, value, curr);
     lay_in(nodes, entries, pred, e, n, stamp);
     lay_in(nodes, entries, n, e + 1, curr, stamp);
 }
 
 // The entry in pred to curr's next, then curr's to the head.
-fn lay_remove(nodes: &mut [u32], entries: &mut [u32], c: Counters, pred: u32, curr: u32)
-    requires { c.entries + 2 ≤ 4294967295 }
+#[tactic(auto, unfolding(steps::specs::Steps::remove_laid))]
+fn lay_remove(task: Task, nodes: &mut [u32], entries: &mut [u32], pred: u32, curr: u32)
+    requires { task.counters.entries + 2 ≤ 4294967295 }
     ensures { tables nodes.new entries.new
-        ≡ remove_laid nodes.old entries.old c pred curr }
+        ≡ remove_laid nodes.old entries.old task.counters pred curr }
 {
-    let e = c.entries;
-    let stamp = c.stamp;
+    let e = task.counters.entries;
+    let stamp = task.counters.stamp;
     let next = nodes::node(nodes, curr, NEXT);
     lay_in(nodes, entries, pred, e, next, stamp);
     lay_in(nodes, entries, curr, e + 1, 0, stamp);
 }
 
-fn room_insert(
-    z: Size,
-    nodes: &mut [u32],
-    entries: &mut [u32],
-    c: Counters,
-    op: Op,
-    pred: u32,
-    curr: u32,
-) -> Stepped
-    ensures { done nodes.new entries.new result
-        ≡ insert_room z nodes.old entries.old c op pred curr }
+// Both entries are laid, and `used` nodes are in use: on to Number.
+fn laid(task: Task, used: u32, pred: u32, node: u32) -> Stepped
+    requires { task.counters.entries + 2 ≤ 4294967295 }
+    ensures { result
+        ≡ works (counted task.counters used) task.op
+        (Phase.Number pred node task.counters.entries (task.counters.entries + 1)) }
 {
-    let n = c.nodes;
-    let e = c.entries;
-    let stamp = c.stamp;
-    let size = z.entries;
-    if z.nodes < n {
-        return steps::refuse(c, op, Phase::Prepare { pred, curr }, Refusal::Damaged);
+    let lower = task.counters.entries;
+    let counters = Counters {
+        nodes: used,
+        entries: lower + 2,
+        ..task.counters
+    };
+    let counted = Task { counters, ..task };
+    counted.work(Phase::Number {
+        pred,
+        node,
+        lower,
+        upper: lower + 1,
+    })
+}
+
+#[tactic(auto, unfolding(steps::specs::Steps::insert_room))]
+fn room_insert(task: Task, nodes: &mut [u32], entries: &mut [u32], pred: u32, curr: u32) -> Stepped
+    ensures { done nodes.new entries.new result
+        ≡ insert_room task.size nodes.old entries.old task.counters task.op pred curr }
+{
+    let n = task.counters.nodes;
+    if task.size.nodes < n {
+        return task.damaged(Phase::Prepare { pred, curr });
     }
-    if n == z.nodes {
+    if n == task.size.nodes {
         nodes::unlock(nodes, pred);
-        return steps::end(c, Answer::Refused(Refusal::Full));
+        return task.end(Answer::Refused(Refusal::Full));
     }
-    if (size as u64) < e as u64 + 2 {
-        return steps::refuse(c, op, Phase::Prepare { pred, curr }, Refusal::Damaged);
+    if (task.size.entries as u64) < task.counters.entries as u64 + 2 {
+        return task.damaged(Phase::Prepare { pred, curr });
     }
-    lay_insert(nodes, entries, c, op, pred, curr);
-    let counted = Counters {
-        nodes: n + 1,
-        entries: e + 2,
-        stamp,
-    };
-    let then = Phase::Number {
-        pred,
-        node: n,
-        lower: e,
-        upper: e + 1,
-    };
-    steps::work(counted, op, then)
+    lay_insert(task, nodes, entries, pred, curr);
+    laid(task, n + 1, pred, n)
 }
 
-fn room_remove(
-    z: Size,
-    nodes: &mut [u32],
-    entries: &mut [u32],
-    c: Counters,
-    op: Op,
-    pred: u32,
-    curr: u32,
-) -> Stepped
+#[tactic(auto, unfolding(steps::specs::Steps::remove_room))]
+fn room_remove(task: Task, nodes: &mut [u32], entries: &mut [u32], pred: u32, curr: u32) -> Stepped
     ensures { done nodes.new entries.new result
-        ≡ remove_room z nodes.old entries.old c op pred curr }
+        ≡ remove_room task.size nodes.old entries.old task.counters task.op pred curr }
 {
-    let n = c.nodes;
-    let e = c.entries;
-    let stamp = c.stamp;
-    let size = z.entries;
-    if z.nodes < n {
-        return steps::refuse(c, op, Phase::Prepare { pred, curr }, Refusal::Damaged);
+    let n = task.counters.nodes;
+    if task.size.nodes < n || (task.size.entries as u64) < task.counters.entries as u64 + 2 {
+        return task.damaged(Phase::Prepare { pred, curr });
     }
-    if (size as u64) < e as u64 + 2 {
-        return steps::refuse(c, op, Phase::Prepare { pred, curr }, Refusal::Damaged);
-    }
-    lay_remove(nodes, entries, c, pred, curr);
-    let counted = Counters {
-        nodes: n,
-        entries: e + 2,
-        stamp,
-    };
-    let then = Phase::Number {
-        pred,
-        node: curr,
-        lower: e,
-        upper: e + 1,
-    };
-    steps::work(counted, op, then)
+    lay_remove(task, nodes, entries, pred, curr);
+    laid(task, n, pred, curr)
 }
 
-// Where the newest entry of pred's bundle is not pending, room for the rest.
-fn prepare_insert(
-    z: Size,
-    nodes: &mut [u32],
-    entries: &mut [u32],
-    c: Counters,
-    op: Op,
-    pred: u32,
-    curr: u32,
-) -> Stepped
+// Where no newest entry that it looks at is pending, room for the rest.
+#[tactic(auto, unfolding(steps::specs::Steps::prepare_step))]
+pub fn prepare(task: Task, nodes: &mut [u32], entries: &mut [u32], pred: u32, curr: u32) -> Stepped
     ensures { done nodes.new entries.new result
-        ≡ insert_prepare z nodes.old entries.old c op pred curr }
+        ≡ prepare_step task.size nodes.old entries.old task.counters task.op pred curr }
 {
     let here = Phase::Prepare { pred, curr };
-    match held_at(z, nodes, entries, pred) {
-        Ok(()) => room_insert(z, nodes, entries, c, op, pred, curr),
-        Err(Held::Wait) => steps::wait(c, op, here),
-        Err(Held::Damaged) => steps::refuse(c, op, here, Refusal::Damaged),
+    let removes = terms::removes(task.op);
+    let held = if removes {
+        held_either(task.size, nodes, entries, pred, curr)
+    } else {
+        held_at(task.size, nodes, entries, pred)
+    };
+    match held {
+        Ok(()) if removes => room_remove(task, nodes, entries, pred, curr),
+        Ok(()) => room_insert(task, nodes, entries, pred, curr),
+        Err(Held::Wait) => task.wait(here),
+        Err(Held::Damaged) => task.damaged(here),
     }
-}
-
-fn prepare_remove(
-    z: Size,
-    nodes: &mut [u32],
-    entries: &mut [u32],
-    c: Counters,
-    op: Op,
-    pred: u32,
-    curr: u32,
-) -> Stepped
-    ensures { done nodes.new entries.new result
-        ≡ remove_prepare z nodes.old entries.old c op pred curr }
-{
-    let here = Phase::Prepare { pred, curr };
-    match held_either(z, nodes, entries, pred, curr) {
-        Ok(()) => room_remove(z, nodes, entries, c, op, pred, curr),
-        Err(Held::Wait) => steps::wait(c, op, here),
-        Err(Held::Damaged) => steps::refuse(c, op, here, Refusal::Damaged),
-    }
-}
-
-pub fn prepare(
-    z: Size,
-    nodes: &mut [u32],
-    entries: &mut [u32],
-    c: Counters,
-    op: Op,
-    pred: u32,
-    curr: u32,
-) -> Stepped
-    ensures { done nodes.new entries.new result
-        ≡ prepare_step z nodes.old entries.old c op pred curr }
-{
-    if terms::removes(op) {
-        return prepare_remove(z, nodes, entries, c, op, pred, curr);
-    }
-    prepare_insert(z, nodes, entries, c, op, pred, curr)
 }

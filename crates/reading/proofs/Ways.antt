@@ -1,5 +1,5 @@
--- Each way out of the steps that write nothing, over plain values: what the code read and tested, and what the step
--- then is.
+-- Ways out of the steps that write nothing, where nothing is damaged, over plain values: what was read and tested, and
+-- what the step then is. The crates above cite them.
 -- In order: Walk; has's Follow; Follow; Hand. Assumes nothing.
 use Rattle.std.specs.Prelude.{Result, Ok, Err}
 use Prim.Native.Nat.{ℕ, ◌+◌, ◌≤◌, ◌<◌}
@@ -16,16 +16,12 @@ use Rattle.terms.specs.declared.Op.{Op}
 use Rattle.terms.specs.declared.Answer.{Answer}
 use Rattle.steps.specs.declared.Phase.{Phase}
 use Rattle.steps.specs.declared.Stepped.{Stepped}
-use Rattle.steps.specs.Steps.{arrived_of, gives, works, waits, ends, damaged, walk_step, has_sees, newest_step}
+use Rattle.steps.specs.Steps.{arrived_of, gives, works, waits, ends, walk_step, has_sees, newest_step}
 use Rattle.steps.specs.Steps.{range_sees}
 use Rattle.steps.specs.Steps.{follow_step, hand_step}
 
 -- ---- Walk
 module _ (z : Size) (ns : List ℕ) (c : Counters) (op : Op) (pred curr : ℕ) (r : Stepped) where
-  pub walk_past : z.nodes ≤ curr → r ≡ damaged c op (Phase.Walk pred curr) → r ≡ walk_step z ns c op pred curr
-  unfolding walk_step
-  walk_past past e = rw (le-ltb _ _ past, e)
-
   pub walk_on : (k s n : ℕ) → curr < z.nodes → k ≡ key_at ns curr → s ≡ sought_of op → k < s → n ≡ next_at ns curr
       → r ≡ works c op (Phase.Walk curr n) → r ≡ walk_step z ns c op pred curr
   unfolding walk_step
@@ -36,14 +32,8 @@ module _ (z : Size) (ns : List ℕ) (c : Counters) (op : Op) (pred curr : ℕ) (
   unfolding walk_step
   walk_arrives k s p in_table hk hs reached hp e = rw (lt-ltb _ _ in_table, ← hk, ← hs, le-ltb k s reached, e, hp)
 
-pub ruleset walked = (walk_past, walk_on, walk_arrives)
-
 -- ---- has's Follow
 module _ (z : Size) (ns : List ℕ) (c : Counters) (op : Op) (at to : ℕ) (r : Stepped) where
-  pub has_past : z.nodes ≤ to → r ≡ damaged c op (Phase.Newest at) → r ≡ has_sees z ns c op at to
-  unfolding has_sees
-  has_past past e = rw (le-ltb _ _ past, e)
-
   module _ (k s : ℕ) (in_table : to < z.nodes) (key : k ≡ key_at ns to) (sought : s ≡ sought_of op) where
     pub has_on : k < s → r ≡ works c op (Phase.Newest to) → r ≡ has_sees z ns c op at to
     unfolding has_sees
@@ -57,13 +47,7 @@ module _ (z : Size) (ns : List ℕ) (c : Counters) (op : Op) (at to : ℕ) (r : 
     unfolding has_sees
     has_not reached other e = rw (lt-ltb _ _ in_table, ← key, ← sought, le-ltb k s reached, ne_eqb k s other, e)
 
-pub ruleset has_seen = (has_past, has_on, has_yes, has_not)
-
 module _ (z : Size) (ns es : List ℕ) (c : Counters) (op : Op) (at : ℕ) (r : Stepped) where
-  pub newest_past : z.nodes ≤ at → r ≡ damaged c op (Phase.Newest at) → r ≡ newest_step z ns es c op at
-  unfolding newest_step
-  newest_past past e = rw (le-ltb _ _ past, e)
-
   module _ (f : ℕ) (o : Result ℕ Held) (in_table : at < z.nodes) (link : f ≡ newest_at ns at)
       (read : o ≡ newest_of z.entries es f) where
     pub newest_waits : o ≡ Err Held.Wait → r ≡ waits c op (Phase.Newest at) → r ≡ newest_step z ns es c op at
@@ -74,19 +58,8 @@ module _ (z : Size) (ns es : List ℕ) (c : Counters) (op : Op) (at : ℕ) (r : 
     unfolding newest_step
     newest_leads to h e = rw (lt-ltb _ _ in_table, ← link, ← read, h, e)
 
-    pub newest_broken : o ≡ Err Held.Damaged → r ≡ damaged c op (Phase.Newest at) → r ≡ newest_step z ns es c op at
-    unfolding newest_step
-    newest_broken h e = rw (lt-ltb _ _ in_table, ← link, ← read, h, e)
-
-pub ruleset newest_read = (newest_past, newest_waits, newest_leads, newest_broken)
-
 -- ---- Follow
 module _ (z : Size) (ns : List ℕ) (c : Counters) (op : Op) (at snapshot handed to : ℕ) (r : Stepped) where
-  pub range_past : z.nodes ≤ to → r ≡ damaged c op (Phase.Follow at snapshot handed)
-      → r ≡ range_sees z ns c op at snapshot handed to
-  unfolding range_sees
-  range_past past e = rw (le-ltb _ _ past, e)
-
   module _ (k s : ℕ) (in_table : to < z.nodes) (key : k ≡ key_at ns to) (sought : s ≡ sought_of op) where
     pub range_on : k < s → r ≡ works c op (Phase.Follow to snapshot handed)
         → r ≡ range_sees z ns c op at snapshot handed to
@@ -105,14 +78,7 @@ module _ (z : Size) (ns : List ℕ) (c : Counters) (op : Op) (at snapshot handed
     range_ends h reached high above e =
         rw (lt-ltb _ _ in_table, ← key, ← sought, le-ltb k s reached, ← high, lt-leb k h above, e)
 
-pub ruleset range_seen = (range_past, range_on, range_in, range_ends)
-
 module _ (z : Size) (ns es : List ℕ) (c : Counters) (op : Op) (at snapshot handed : ℕ) (r : Stepped) where
-  pub follow_past : z.nodes ≤ at → r ≡ damaged c op (Phase.Follow at snapshot handed)
-      → r ≡ follow_step z ns es c op at snapshot handed
-  unfolding follow_step
-  follow_past past e = rw (le-ltb _ _ past, e)
-
   module _ (f : ℕ) (o : Result ℕ Held) (in_table : at < z.nodes) (link : f ≡ newest_at ns at)
       (read : o ≡ at_of z.entries es f snapshot) where
     pub follow_waits : o ≡ Err Held.Wait → r ≡ waits c op (Phase.Follow at snapshot handed)
@@ -125,29 +91,10 @@ module _ (z : Size) (ns es : List ℕ) (c : Counters) (op : Op) (at snapshot han
     unfolding follow_step
     follow_leads to h e = rw (lt-ltb _ _ in_table, ← link, ← read, h, e)
 
-    pub follow_broken : o ≡ Err Held.Damaged → r ≡ damaged c op (Phase.Follow at snapshot handed)
-        → r ≡ follow_step z ns es c op at snapshot handed
-    unfolding follow_step
-    follow_broken h e = rw (lt-ltb _ _ in_table, ← link, ← read, h, e)
-
-pub ruleset followed = (follow_past, follow_waits, follow_leads, follow_broken)
-
 -- ---- Hand
 module _ (z : Size) (ns : List ℕ) (c : Counters) (op : Op) (at snapshot handed : ℕ) (r : Stepped) where
-  pub hand_past : z.nodes ≤ at → r ≡ damaged c op (Phase.Hand at snapshot handed)
-      → r ≡ hand_step z ns c op at snapshot handed
-  unfolding hand_step
-  hand_past past e = rw (le-ltb _ _ past, e)
-
-  pub hand_many : at < z.nodes → z.keys ≤ handed → r ≡ damaged c op (Phase.Hand at snapshot handed)
-      → r ≡ hand_step z ns c op at snapshot handed
-  unfolding hand_step
-  hand_many in_table many e = rw (lt-ltb _ _ in_table, le-ltb _ _ many, e)
-
   pub hands : (k v : ℕ) → at < z.nodes → handed < z.keys → k ≡ key_at ns at → v ≡ value_at ns at
       → r ≡ gives c op (Phase.Follow at snapshot (handed + 1)) (Answer.Key k v)
       → r ≡ hand_step z ns c op at snapshot handed
   unfolding hand_step
   hands k v in_table few hk hv e = rw (lt-ltb _ _ in_table, lt-ltb _ _ few, e, hk, hv)
-
-pub ruleset handed_out = (hand_past, hand_many, hands)

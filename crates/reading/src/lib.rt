@@ -7,170 +7,141 @@ ghost use Rattle.steps.specs.Steps.{walk_step, has_sees, newest_step, fix_step, 
 
 use bundle::Held;
 use nodes::{KEY, NEWEST, NEXT, VALUE};
-use steps::{Phase, Stepped};
-use terms::{Answer, Counters, Op, Refusal, Size};
+use steps::{Phase, Stepped, Task};
+use terms::Answer;
 
-pub fn walk(z: Size, nodes: &[u32], c: Counters, op: Op, pred: u32, curr: u32) -> Stepped
-    ensures { result ≡ walk_step z nodes.now c op pred curr }
+#[tactic(auto, unfolding(steps::specs::Steps::walk_step))]
+pub fn walk(task: Task, nodes: &[u32], pred: u32, curr: u32) -> Stepped
+    ensures { result ≡ walk_step task.size nodes.now task.counters task.op pred curr }
 {
-    if z.nodes <= curr {
-        return steps::refuse(c, op, Phase::Walk { pred, curr }, Refusal::Damaged);
+    if task.size.nodes <= curr {
+        return task.damaged(Phase::Walk { pred, curr });
     }
-    if nodes::node(nodes, curr, KEY) < terms::sought(op) {
+    if nodes::node(nodes, curr, KEY) < terms::sought(task.op) {
         let next = nodes::node(nodes, curr, NEXT);
-        return steps::work(
-            c,
-            op,
-            Phase::Walk {
-                pred: curr,
-                curr: next,
-            },
-        );
+        return task.work(Phase::Walk {
+            pred: curr,
+            curr: next,
+        });
     }
-    steps::work(c, op, steps::arrived(op, pred, curr))
+    task.work(steps::arrived(task.op, pred, curr))
 }
 
 // Has at the node that the newest link leads to.
-fn has_sees(z: Size, nodes: &[u32], c: Counters, op: Op, at: u32, to: u32) -> Stepped
-    ensures { result ≡ has_sees z nodes.now c op at to }
+#[tactic(auto, unfolding(steps::specs::Steps::has_sees))]
+fn has_sees(task: Task, nodes: &[u32], at: u32, to: u32) -> Stepped
+    ensures { result ≡ has_sees task.size nodes.now task.counters task.op at to }
 {
-    if z.nodes <= to {
-        return steps::refuse(c, op, Phase::Newest { at }, Refusal::Damaged);
+    if task.size.nodes <= to {
+        return task.damaged(Phase::Newest { at });
     }
     let key = nodes::node(nodes, to, KEY);
-    let sought = terms::sought(op);
+    let sought = terms::sought(task.op);
     if key < sought {
-        return steps::work(c, op, Phase::Newest { at: to });
+        return task.work(Phase::Newest { at: to });
     }
     if key == sought {
-        return steps::end(c, Answer::Present);
+        return task.end(Answer::Present);
     }
-    steps::end(c, Answer::Absent)
+    task.end(Answer::Absent)
 }
 
 #[tactic(auto, unfolding(steps::specs::Steps::newest_step))]
-pub fn newest(z: Size, nodes: &[u32], entries: &[u32], c: Counters, op: Op, at: u32) -> Stepped
-    ensures { result ≡ newest_step z nodes.now entries.now c op at }
+pub fn newest(task: Task, nodes: &[u32], entries: &[u32], at: u32) -> Stepped
+    ensures { result ≡ newest_step task.size nodes.now entries.now task.counters task.op at }
 {
-    if z.nodes <= at {
-        return steps::refuse(c, op, Phase::Newest { at }, Refusal::Damaged);
+    let here = Phase::Newest { at };
+    if task.size.nodes <= at {
+        return task.damaged(here);
     }
-    let size = z.entries;
     let link = nodes::node(nodes, at, NEWEST);
-    match bundle::read_newest(entries, size, link) {
-        Err(Held::Wait) => steps::wait(c, op, Phase::Newest { at }),
-        Ok(to) => has_sees(z, nodes, c, op, at, to),
-        Err(Held::Damaged) => steps::refuse(c, op, Phase::Newest { at }, Refusal::Damaged),
+    match bundle::read_newest(entries, task.size.entries, link) {
+        Err(Held::Wait) => task.wait(here),
+        Ok(to) => has_sees(task, nodes, at, to),
+        Err(Held::Damaged) => task.damaged(here),
     }
 }
 
-pub fn fix(c: Counters, op: Op, pred: u32) -> Stepped
-    ensures { result ≡ fix_step c op pred }
+pub fn fix(task: Task, pred: u32) -> Stepped
+    ensures { result ≡ fix_step task.counters task.op pred }
 {
-    let snapshot = c.stamp;
-    steps::work(
-        c,
-        op,
-        Phase::Follow {
-            at: pred,
-            snapshot,
-            handed: 0,
-        },
-    )
+    let snapshot = task.counters.stamp;
+    task.work(Phase::Follow {
+        at: pred,
+        snapshot,
+        handed: 0,
+    })
 }
 
 // A range at the node that the link at its snapshot leads to.
-fn range_sees(
-    z: Size,
-    nodes: &[u32],
-    c: Counters,
-    op: Op,
-    at: u32,
-    snapshot: u32,
-    handed: u32,
-    to: u32,
-) -> Stepped
-    ensures { result ≡ range_sees z nodes.now c op at snapshot handed to }
+#[tactic(auto, unfolding(steps::specs::Steps::range_sees))]
+fn range_sees(task: Task, nodes: &[u32], at: u32, snapshot: u32, handed: u32, to: u32) -> Stepped
+    ensures { result
+        ≡ range_sees task.size nodes.now task.counters task.op at snapshot handed to }
 {
-    if z.nodes <= to {
-        let here = Phase::Follow {
+    if task.size.nodes <= to {
+        return task.damaged(Phase::Follow {
             at,
             snapshot,
             handed,
-        };
-        return steps::refuse(c, op, here, Refusal::Damaged);
+        });
     }
     let key = nodes::node(nodes, to, KEY);
-    if key < terms::sought(op) {
-        let on = Phase::Follow {
+    if key < terms::sought(task.op) {
+        return task.work(Phase::Follow {
             at: to,
             snapshot,
             handed,
-        };
-        return steps::work(c, op, on);
+        });
     }
-    if key <= terms::high(op) {
-        let on = Phase::Hand {
+    if key <= terms::high(task.op) {
+        return task.work(Phase::Hand {
             at: to,
             snapshot,
             handed,
-        };
-        return steps::work(c, op, on);
+        });
     }
-    steps::end(c, Answer::End(snapshot, handed))
+    task.end(Answer::End(snapshot, handed))
 }
 
 #[tactic(auto, unfolding(steps::specs::Steps::follow_step))]
 pub fn follow(
-    z: Size,
+    task: Task,
     nodes: &[u32],
     entries: &[u32],
-    c: Counters,
-    op: Op,
     at: u32,
     snapshot: u32,
     handed: u32,
 ) -> Stepped
-    ensures { result ≡ follow_step z nodes.now entries.now c op at snapshot handed }
+    ensures { result
+        ≡ follow_step task.size nodes.now entries.now task.counters task.op at snapshot handed }
 {
     let here = Phase::Follow {
         at,
         snapshot,
         handed,
     };
-    if z.nodes <= at {
-        return steps::refuse(c, op, here, Refusal::Damaged);
+    if task.size.nodes <= at {
+        return task.damaged(here);
     }
-    let size = z.entries;
     let link = nodes::node(nodes, at, NEWEST);
-    match bundle::read_at(entries, size, link, snapshot) {
-        Err(Held::Wait) => steps::wait(c, op, here),
-        Ok(to) => range_sees(z, nodes, c, op, at, snapshot, handed, to),
-        Err(Held::Damaged) => steps::refuse(c, op, here, Refusal::Damaged),
+    match bundle::read_at(entries, task.size.entries, link, snapshot) {
+        Err(Held::Wait) => task.wait(here),
+        Ok(to) => range_sees(task, nodes, at, snapshot, handed, to),
+        Err(Held::Damaged) => task.damaged(here),
     }
 }
 
-pub fn hand(
-    z: Size,
-    nodes: &[u32],
-    c: Counters,
-    op: Op,
-    at: u32,
-    snapshot: u32,
-    handed: u32,
-) -> Stepped
-    ensures { result ≡ hand_step z nodes.now c op at snapshot handed }
+#[tactic(auto, unfolding(steps::specs::Steps::hand_step))]
+pub fn hand(task: Task, nodes: &[u32], at: u32, snapshot: u32, handed: u32) -> Stepped
+    ensures { result ≡ hand_step task.size nodes.now task.counters task.op at snapshot handed }
 {
-    let here = Phase::Hand {
-        at,
-        snapshot,
-        handed,
-    };
-    if z.nodes <= at {
-        return steps::refuse(c, op, here, Refusal::Damaged);
-    }
-    if z.keys <= handed {
-        return steps::refuse(c, op, here, Refusal::Damaged);
+    if task.size.nodes <= at || task.size.keys <= handed {
+        return task.damaged(Phase::Hand {
+            at,
+            snapshot,
+            handed,
+        });
     }
     let key = nodes::node(nodes, at, KEY);
     let value = nodes::node(nodes, at, VALUE);
@@ -179,5 +150,5 @@ pub fn hand(
         snapshot,
         handed: handed + 1,
     };
-    steps::give(c, op, on, Answer::Key(key, value))
+    task.give(on, Answer::Key(key, value))
 }

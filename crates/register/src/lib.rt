@@ -22,7 +22,7 @@ ghost use Rattle.register.specs.Register.{
 };
 
 use nodes::{KEY, NEWEST, NEXT};
-use steps::{Phase, Session, Stepped};
+use steps::{Phase, Session, Stepped, Task};
 use terms::{Answer, Counters, Op, Refusal, Size};
 
 // What a start returns: the session's record afterwards, and the answer.
@@ -133,21 +133,24 @@ pub fn start(nodes: &[u32], entries: &[u32], who: u32, s: Session, op: Op) -> St
     keep(s, Refusal::BadTable)
 }
 
+#[tactic(auto, unfolding(crate::specs::Register::step_of))]
 pub fn step(nodes: &mut [u32], entries: &mut [u32], c: Counters, who: u32, s: Session) -> Stepped
     ensures { done nodes.new entries.new result
         ≡ step_of small nodes.old entries.old c who s }
 {
-    let op = s.op;
-    let phase = s.phase;
-    let z = terms::small_size();
-    if right_lengths(z, nodes, entries) {
+    let task = Task {
+        size: terms::small_size(),
+        counters: c,
+        op: s.op,
+    };
+    if right_lengths(task.size, nodes, entries) {
         if 16 <= who {
-            return steps::refuse(c, op, phase, Refusal::BadSession);
+            return task.refuse(s.phase, Refusal::BadSession);
         }
         if steps::busy(s) {
-            return list::act(z, nodes, entries, c, who, op, phase);
+            return list::act(task, nodes, entries, who, s.phase);
         }
-        return steps::refuse(c, op, phase, Refusal::Idle);
+        return task.refuse(s.phase, Refusal::Idle);
     }
-    steps::refuse(c, op, phase, Refusal::BadTable)
+    task.refuse(s.phase, Refusal::BadTable)
 }

@@ -1,5 +1,6 @@
 // The list's session record, what a step returns, and the small functions that build both.
-// In order: phases and records; what a step returns; where a walk and a lock lead; whether a session is busy.
+// In order: phases and records; what a step is given and returns; where a walk and a lock lead; whether a session is
+// busy.
 // Not here: the phases' own functions (crates reading, locking, preparing, finishing). specs/Steps.antt defines every
 // step. Assumes nothing.
 #![tactic(auto)]
@@ -12,13 +13,14 @@ ghost use Rattle.steps.specs.Steps.{
   waits,
   ends,
   refuses,
+  damaged,
   arrived_of,
   locked_of,
   under_way,
   busy_of,
 };
 
-use terms::{Answer, Counters, Op, Refusal};
+use terms::{Answer, Counters, Op, Refusal, Size};
 
 // Each phase with its own numbers. Past Prepare: `node` is the new node of an insert or the removed node of a remove,
 // and `lower` and `upper` are the entries laid in pred and in it.
@@ -101,48 +103,68 @@ pub struct Stepped {
 pub fn idle_session() -> Session
     ensures { result ≡ idle }
 {
-    let op = Op::None;
-    let phase = Phase::Idle;
-    Session { op, phase }
-}
-
-pub fn give(c: Counters, op: Op, phase: Phase, answer: Answer) -> Stepped
-    ensures { result ≡ gives c op phase answer }
-{
-    let session = Session { op, phase };
-    Stepped {
-        counters: c,
-        session,
-        answer,
+    Session {
+        op: Op::None,
+        phase: Phase::Idle,
     }
 }
 
-pub fn work(c: Counters, op: Op, phase: Phase) -> Stepped
-    ensures { result ≡ works c op phase }
-{
-    give(c, op, phase, Answer::Working)
+// What a step is given beside the tables and the phase: their size, the counters, and the session's operation.
+#[derive(Clone, Copy)]
+pub struct Task {
+    pub size: Size,
+    pub counters: Counters,
+    pub op: Op,
 }
 
-// Waiting changes nothing.
-pub fn wait(c: Counters, op: Op, phase: Phase) -> Stepped
-    ensures { result ≡ waits c op phase }
-{
-    give(c, op, phase, Answer::Waiting)
-}
+impl Task {
+    pub fn give(self, phase: Phase, answer: Answer) -> Stepped
+        ensures { result ≡ gives self.counters self.op phase answer }
+    {
+        let session = Session { op: self.op, phase };
+        Stepped {
+            counters: self.counters,
+            session,
+            answer,
+        }
+    }
 
-// The operation is over.
-pub fn end(c: Counters, answer: Answer) -> Stepped
-    ensures { result ≡ ends c answer }
-{
-    give(c, Op::None, Phase::Idle, answer)
-}
+    pub fn work(self, phase: Phase) -> Stepped
+        ensures { result ≡ works self.counters self.op phase }
+    {
+        self.give(phase, Answer::Working)
+    }
 
-// A refusal changes nothing.
-pub fn refuse(c: Counters, op: Op, phase: Phase, why: Refusal) -> Stepped
-    ensures { result ≡ refuses c op phase why }
-{
-    let answer = Answer::Refused(why);
-    give(c, op, phase, answer)
+    // Waiting changes nothing.
+    pub fn wait(self, phase: Phase) -> Stepped
+        ensures { result ≡ waits self.counters self.op phase }
+    {
+        self.give(phase, Answer::Waiting)
+    }
+
+    // The operation is over.
+    pub fn end(self, answer: Answer) -> Stepped
+        ensures { result ≡ ends self.counters answer }
+    {
+        let over = Task {
+            op: Op::None,
+            ..self
+        };
+        over.give(Phase::Idle, answer)
+    }
+
+    // A refusal changes nothing.
+    pub fn refuse(self, phase: Phase, why: Refusal) -> Stepped
+        ensures { result ≡ refuses self.counters self.op phase why }
+    {
+        self.give(phase, Answer::Refused(why))
+    }
+
+    pub fn damaged(self, phase: Phase) -> Stepped
+        ensures { result ≡ damaged self.counters self.op phase }
+    {
+        self.refuse(phase, Refusal::Damaged)
+    }
 }
 
 // Where the walk leads.
@@ -151,10 +173,9 @@ pub fn arrived(op: Op, pred: u32, curr: u32) -> Phase
 {
     match op {
         Op::None => Phase::Idle,
-        Op::Insert(_, _) => Phase::Lock { pred, curr },
-        Op::Remove(_) => Phase::Lock { pred, curr },
+        Op::Insert(..) | Op::Remove(_) => Phase::Lock { pred, curr },
         Op::Has(_) => Phase::Newest { at: pred },
-        Op::Range(_, _) => Phase::Fix { pred },
+        Op::Range(..) => Phase::Fix { pred },
     }
 }
 
@@ -171,56 +192,12 @@ pub fn locked(op: Op, pred: u32, curr: u32) -> Phase
 fn under_way(phase: Phase) -> bool
     ensures { result ≡ under_way phase }
 {
-    match phase {
-        Phase::Idle => false,
-        Phase::Walk { pred: _, curr: _ } => true,
-        Phase::Lock { pred: _, curr: _ } => true,
-        Phase::LockCurr { pred: _, curr: _ } => true,
-        Phase::Check { pred: _, curr: _ } => true,
-        Phase::Prepare { pred: _, curr: _ } => true,
-        Phase::Number {
-            pred: _,
-            node: _,
-            lower: _,
-            upper: _,
-        } => true,
-        Phase::Link {
-            pred: _,
-            node: _,
-            lower: _,
-            upper: _,
-            number: _,
-        } => true,
-        Phase::Finish {
-            pred: _,
-            node: _,
-            lower: _,
-            upper: _,
-            number: _,
-        } => true,
-        Phase::Newest { at: _ } => true,
-        Phase::Fix { pred: _ } => true,
-        Phase::Follow {
-            at: _,
-            snapshot: _,
-            handed: _,
-        } => true,
-        Phase::Hand {
-            at: _,
-            snapshot: _,
-            handed: _,
-        } => true,
-    }
+    !matches!(phase, Phase::Idle)
 }
 
 // A record that names an operation and a phase of it.
 pub fn busy(s: Session) -> bool
     ensures { result ≡ busy_of s }
 {
-    let op = s.op;
-    if terms::names(op) {
-        let phase = s.phase;
-        return under_way(phase);
-    }
-    false
+    terms::names(s.op) && under_way(s.phase)
 }

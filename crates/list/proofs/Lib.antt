@@ -1,2 +1,0 @@
--- Each phase's arm of the step.
-pub mod Ways

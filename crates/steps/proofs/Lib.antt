@@ -1,2 +1,0 @@
--- Each way through the functions that build a record.
-pub mod Ways
