@@ -2,11 +2,11 @@
 -- In order: the slices' lengths; an answer; writing (12, 11); reading (7, then 9 with the offset, or 10). `ws` are the
 -- counters' and records' words, `out` (`answer` beside a listing's output) the answer's.
 -- Not here: the bytes of a listing (crate listing), the loaded tables (crate loading). Assumes nothing.
-use Rattle.std.specs.Prelude.{ℕ, ◌%◌, List, cond, length, eqb}
+use Rattle.std.specs.Prelude.{ℕ, ◌%◌, List, cond, length, eqb, Result, Ok, Err}
 use Rattle.terms.specs.declared.Size.{Size}
 use Rattle.steps.specs.Steps.{tables}
 use Rattle.listing.specs.Listing.{Done as ListingDone, done as listed, write_of}
-use Rattle.listing.specs.declared.Written.{Written}
+use Rattle.listing.specs.declared.Unwritten.{Unwritten}
 use Rattle.loading.specs.Loading.{Done as LoadingDone, done as loads, load_of}
 use Rattle.loading.specs.declared.Loaded.{Loaded}
 use Rattle.packing.specs.declared.Reply.{Reply}
@@ -27,10 +27,10 @@ given out r = told (put_reply out r) (number_of r)
 abbrev pub as_word : ℕ → ℕ
 as_word n = n % 4294967296
 
-abbrev pub written_reply : Written → Reply
-written_reply (Written.Length n) = reply_with 10 (as_word n) 0
-written_reply Written.NoRoom = refused_by 11
-written_reply Written.BadPairs = refused_by 12
+abbrev pub written_reply : Result ℕ Unwritten → Reply
+written_reply (Ok n) = reply_with 10 (as_word n) 0
+written_reply (Err Unwritten.NoRoom) = refused_by 11
+written_reply (Err Unwritten.BadPairs) = refused_by 12
 
 pub data Wrote : Type 0 where
   wrote : List ℕ → List ℕ → ℕ → Wrote

@@ -10,7 +10,7 @@ ghost use Rattle.listing.specs.Listing.{key_room};
 ghost use Rattle.exchange.specs.Exchange.{told, given, written_reply, wrote, write_call};
 ghost use Rattle.exchange.specs.Exchange.{left, loaded_reply, loaded_words, read_loaded, read_call};
 
-use listing::Written;
+use listing::Unwritten;
 use loading::Loaded;
 use packing::Reply;
 use terms::Refusal;
@@ -24,17 +24,17 @@ pub fn give(answer: &mut [u32], reply: Reply) -> u32
 }
 
 // A length as a word: no listing is that long that it would not fit.
-fn written_reply(w: Written) -> Reply
+fn written_reply(w: Result<usize, Unwritten>) -> Reply
     ensures { result ≡ written_reply w }
 {
     match w {
-        Written::Length(n) => Reply {
+        Ok(n) => Reply {
             name: 10,
             first: (n % 4294967296) as u32,
             ..Reply::default()
         },
-        Written::NoRoom => packing::refused(11),
-        Written::BadPairs => packing::refused(12),
+        Err(Unwritten::NoRoom) => packing::refused(11),
+        Err(Unwritten::BadPairs) => packing::refused(12),
     }
 }
 

@@ -5,13 +5,14 @@ use mathlib.Core.Path.{◌≡◌, refl}
 use mathlib.Core.List.{List, [], ◌∷◌}
 use native.Mathlib.Omega.{arith}
 use lib.ListN.{length, length-append}
+use Rattle.std.specs.Prelude.{Result}
 use Rattle.text.specs.Text.{largest, digits, digits_in}
 use Rattle.text.proofs.Write.{width_mono, width_ten}
 use Rattle.listing.specs.Listing.{stamp_name, key_name, value_name, count_name}
 use Rattle.listing.specs.Listing.{pair_of, pairs, listing_of, key_room, most_bytes}
 use Rattle.listing.specs.Listing.{done, write_of}
 use Rattle.listing.specs.Refusals.{Fit, Good, number_of}
-use Rattle.listing.specs.declared.Written.{Written}
+use Rattle.listing.specs.declared.Unwritten.{Unwritten}
 use Rattle.listing.proofs.Pairs.{good_fit}
 use Rattle.listing.proofs.Refusals.{no_room}
 use Rattle.listing.proofs.Put.{field_length, pair_length, edition_length, listing_length}
@@ -60,7 +61,7 @@ pub length_small : (stamp : ℕ) (ks vs : List ℕ) → stamp ≤ largest → Fi
 length_small stamp ks vs fs fv good = omega (arith, length_most key_room stamp ks vs fs fv good, most_bytes_lem)
 
 -- so an output of 16,357 bytes always has room
-pub always_room : (stamp : ℕ) (ks vs out o : List ℕ) (r : Written) → done o r ≡ write_of key_room stamp ks vs out →
+pub always_room : (stamp : ℕ) (ks vs out o : List ℕ) (r : Result ℕ Unwritten) → done o r ≡ write_of key_room stamp ks vs out →
     stamp ≤ largest → Fit vs → 16357 ≤ length out → number_of r ≡ 11 → ⊥
 always_room stamp ks vs out o r told fs fv room h =
     let short = (no_room key_room stamp ks vs out o r told).0 h in

@@ -4,20 +4,21 @@
 use Prim.Native.Nat.{ℕ, ◌+◌, ◌*◌, ◌≤◌, ◌<◌}
 use mathlib.Core.Path.{◌≡◌, refl, sym, ◌∙◌, ap}
 use mathlib.Core.List.{List, [], ◌∷◌, ◌++◌}
+use mathlib.Core.Logic.{◌⊎◌, inl, inr}
 use mathlib.Core.Bool.{Bool, true, false}
 use native.Mathlib.Omega.{arith}
-use native.Mathlib.Numerals.{add-one}
 use native.Mathlib.Nat.{le_of_lt}
-use lib.ListN.{length, get_or, drop, set, length-append, drop_of_length-le}
-use lib.Seq.{sets, drop-cons}
+use lib.ListN.{length, set, length-append}
+use lib.Seq.{sets}
 use lib.Dec.{lit≤}
 use borrow.Author.Tests.{le-leb, lt-leb}
+use Rattle.std.specs.Prelude.{Ok, Err}
 use Rattle.text.specs.Text.{digits, Puts}
 use Rattle.text.proofs.Write.{sets_append, short, one_digit}
 use Rattle.listing.specs.Listing.{edition_name, stamp_name, key_name, value_name, count_name}
 use Rattle.listing.specs.Listing.{field_of, pair_of, pairs, head_of, body_of, listing_of}
 use Rattle.listing.specs.Listing.{good_pairs, done, write_of}
-use Rattle.listing.specs.declared.Written.{Written}
+use Rattle.listing.specs.declared.Unwritten.{Unwritten}
 use Rattle.listing.proofs.Pairs.{good_counts}
 
 -- ---- a field
@@ -72,71 +73,83 @@ widths_fit k v a b e h = omega (arith, short k, short v)
 
 pub ruleset pair_sizes = (pair_size, width_fits, widths_fit)
 
--- ---- pairs
+-- ---- pairs: as `zip` hands them out, as long as there is a key and a value
 
-pairs_on : (ks vs : List ℕ) (i : ℕ) → length ks ≡ length vs → i < length ks →
-    pairs (drop i ks) (drop i vs) ≡
-    pair_of (get_or ks i 0) (get_or vs i 0) ++ pairs (drop (i + 1) ks) (drop (i + 1) vs)
+pairs_over : (ks vs : List ℕ) → (ks ≡ []) ⊎ (vs ≡ []) → pairs ks vs ≡ []
 unfolding pairs
-pairs_on ks vs i e h = let k : i < length vs = omega arith in rw (drop-cons ks i 0 h, drop-cons vs i 0 k, add-one)
+pairs_over ks vs (inl e) = rw e
+pairs_over [] vs (inr e) = refl
+pairs_over (k ∷ ks) vs (inr e) = rw e
 
-pairs_over : (ks vs : List ℕ) (i : ℕ) → length ks ≤ i → pairs (drop i ks) (drop i vs) ≡ []
+pairs_on : (k v : ℕ) (ks vs ks' vs' : List ℕ) → ks ≡ k ∷ ks' → vs ≡ v ∷ vs' → pairs ks vs ≡ pair_of k v ++ pairs ks' vs'
 unfolding pairs
-pairs_over ks vs i h = rw (drop_of_length-le ks h)
+pairs_on k v ks vs ks' vs' e h = rw (e, h)
 
--- the pairs from i on, written at p, end where all of them end, and make the same bytes
-pub record Rest (ks vs o l : List ℕ) (q p i : ℕ) : Type 0 where
-  pub place : p + length (pairs (drop i ks) (drop i vs)) ≡ q + length (pairs ks vs)
-  pub bytes : sets o q (pairs ks vs) ≡ sets l p (pairs (drop i ks) (drop i vs))
+-- the pairs that are left (ks' and vs'), written at p, end where all of them end, and make the same bytes
+pub record Rest (ks vs o l : List ℕ) (q p : ℕ) (ks' vs' : List ℕ) : Type 0 where
+  pub place : p + length (pairs ks' vs') ≡ q + length (pairs ks vs)
+  pub bytes : sets o q (pairs ks vs) ≡ sets l p (pairs ks' vs')
 
-pub pairs_start : (ks vs o : List ℕ) (q : ℕ) → Rest ks vs o o q q 0
+pub pairs_start : (ks vs o : List ℕ) (q : ℕ) → Rest ks vs o o q q ks vs
 pairs_start ks vs o q = record { place = refl; bytes = refl }
 
-module _ (ks vs o l : List ℕ) (q p i : ℕ) (rest : Rest ks vs o l q p i) where
-  pub pairs_all : length ks ≤ i → Puts o l q (pairs ks vs) p
-  pairs_all h =
-      (omega (arith, rest.place, ap length (pairs_over ks vs i h)), rw (rest.bytes, pairs_over ks vs i h))
+module _ (ks vs o l : List ℕ) (q p : ℕ) (left left' : List ℕ) (rest : Rest ks vs o l q p left left') where
+  pub pairs_all : (left ≡ []) ⊎ (left' ≡ []) → Puts o l q (pairs ks vs) p
+  pairs_all none =
+      let e = pairs_over left left' none in
+      (omega (arith, rest.place, ap length e), rw (rest.bytes, e))
 
-  module _ (same : length ks ≡ length vs) (h : i < length ks) where
-    on_length : p + length (pair_of (get_or ks i 0) (get_or vs i 0)) +
-        length (pairs (drop (i + 1) ks) (drop (i + 1) vs)) ≡ q + length (pairs ks vs)
-    on_length = omega (arith, rest.place, simp length-append at (ap length (pairs_on ks vs i same h)))
+  module _ (k v : ℕ) (ks' vs' : List ℕ) (first : left ≡ k ∷ ks') (second : left' ≡ v ∷ vs') where
+    on_length : p + length (pair_of k v) + length (pairs ks' vs') ≡ q + length (pairs ks vs)
+    on_length =
+        omega (arith, rest.place, simp length-append at (ap length (pairs_on k v left left' ks' vs' first second)))
 
-    pub pairs_room : (m n : ℕ) → q + length (pairs ks vs) ≤ m → n ≡ m →
-        p + length (pair_of (get_or ks i 0) (get_or vs i 0)) ≤ n
+    pub pairs_room : (m n : ℕ) → q + length (pairs ks vs) ≤ m → n ≡ m → p + length (pair_of k v) ≤ n
     pairs_room m n r z = omega (arith, on_length)
 
-    pub pairs_put : (m : List ℕ) (r : ℕ) → Puts l m p (pair_of (get_or ks i 0) (get_or vs i 0)) r →
-        Rest ks vs o m q r (i + 1)
+    pub pairs_put : (m : List ℕ) (r : ℕ) → Puts l m p (pair_of k v) r → Rest ks vs o m q r ks' vs'
     pairs_put m r puts =
-        let pair = pair_of (get_or ks i 0) (get_or vs i 0) in
-        let after = pairs (drop (i + 1) ks) (drop (i + 1) vs) in
         record {
           place = omega (arith, on_length, puts.0);
-          bytes = rw (rest.bytes, pairs_on ks vs i same h, sets_append pair after l p, ← puts.1, ← puts.0);
+          bytes = rw (
+            rest.bytes,
+            pairs_on k v left left' ks' vs' first second,
+            sets_append (pair_of k v) (pairs ks' vs') l p,
+            ← puts.1,
+            ← puts.0,
+          );
         }
 
-pub ruleset pairs_stores = (pairs_start, pairs_room, pairs_put, pairs_all)
+-- ---- their size: what is left and the bytes so far are all, and a pair takes at most 64
 
--- ---- their size
+pub record Sized (ks vs : List ℕ) (n : ℕ) (ks' vs' : List ℕ) : Type 0 where
+  pub all : n + length (pairs ks' vs') ≡ length (pairs ks vs)
+  pub few : n + 64 * length ks' ≤ 64 * length ks
 
-module _ (ks vs : List ℕ) (same : length ks ≡ length vs) (n i : ℕ)
-    (inv : n + length (pairs (drop i ks) (drop i vs)) ≡ length (pairs ks vs)) where
-  pub size_on : (r : ℕ) → i < length ks → r ≡ length (pair_of (get_or ks i 0) (get_or vs i 0)) →
-      n + r + length (pairs (drop (i + 1) ks) (drop (i + 1) vs)) ≡ length (pairs ks vs)
-  size_on r h e = omega (arith, inv, simp length-append at (ap length (pairs_on ks vs i same h)))
+pub size_start : (ks vs : List ℕ) → Sized ks vs 0 ks vs
+size_start ks vs = record { all = omega arith; few = omega arith }
 
-  pub size_all : length ks ≤ i → n ≡ length (pairs ks vs)
-  size_all h = omega (arith, inv, ap length (pairs_over ks vs i h))
+module _ (ks vs : List ℕ) (n : ℕ) (left left' : List ℕ) (so_far : Sized ks vs n left left') where
+  pub size_all : length ks ≤ 65536 → (left ≡ []) ⊎ (left' ≡ []) →
+      (n ≡ length (pairs ks vs)) × (n ≤ 4194304)
+  size_all few none =
+      (omega (arith, so_far.all, ap length (pairs_over left left' none)), omega (arith, so_far.few))
 
-pub size_small : (k v n i r : ℕ) → n ≤ 64 * i → r ≡ length (pair_of k v) → n + r ≤ 64 * (i + 1)
-size_small k v n i r h e = omega (arith, pair_small k v)
+  module _ (k v r : ℕ) (ks' vs' : List ℕ) (first : left ≡ k ∷ ks') (second : left' ≡ v ∷ vs')
+      (e : r ≡ length (pair_of k v)) where
+    pub size_on : Sized ks vs (n + r) ks' vs'
+    size_on =
+        record {
+          all = omega (
+            arith,
+            so_far.all,
+            simp length-append at (ap length (pairs_on k v left left' ks' vs' first second)),
+          );
+          few = omega (arith, so_far.few, ap length first, pair_small k v);
+        }
 
-pub size_fits : (k v n i r m : ℕ) → n ≤ 64 * i → r ≡ length (pair_of k v) → i < m → m ≤ 65536 →
-    n + r < 18446744073709551616
-size_fits k v n i r m h e a b = omega (arith, pair_small k v)
-
-pub ruleset pairs_sizes = (size_on, size_all, size_small, size_fits)
+    pub size_fits : length ks ≤ 65536 → n + r < 18446744073709551616
+    size_fits few = omega (arith, so_far.few, ap length first, pair_small k v)
 
 -- ---- the listing
 
@@ -183,11 +196,11 @@ module _ (most : ℕ) (ks vs : List ℕ) (g : Bool) (f : g ≡ good_pairs most k
 
   module _ (stamp n : ℕ) (o : List ℕ) (e : n ≡ length (listing_of stamp ks vs)) where
     pub write_all : (l : List ℕ) (r : ℕ) → n ≤ length o → r ≡ 0 + length (listing_of stamp ks vs) →
-        l ≡ sets o 0 (listing_of stamp ks vs) → done l (Written.Length r) ≡ write_of most stamp ks vs o
+        l ≡ sets o 0 (listing_of stamp ks vs) → done l (Ok r) ≡ write_of most stamp ks vs o
     unfolding write_of
     write_all l r h er k = let z : r ≡ n = omega arith in rw (← f, y, ← e, le-leb n (length o) h, k, z)
 
-    pub write_no_room : length o < n → done o Written.NoRoom ≡ write_of most stamp ks vs o
+    pub write_no_room : length o < n → done o (Err Unwritten.NoRoom) ≡ write_of most stamp ks vs o
     unfolding write_of
     write_no_room h = rw (← f, y, ← e, lt-leb n (length o) h)
 
@@ -196,7 +209,7 @@ pub write_room : (stamp n : ℕ) (ks vs o : List ℕ) → n ≡ length (listing_
 write_room stamp n ks vs o e h = omega arith
 
 pub write_bad : (most : ℕ) (ks vs : List ℕ) (g : Bool) → g ≡ good_pairs most ks vs → g ≡ false →
-    (stamp : ℕ) (o : List ℕ) → done o Written.BadPairs ≡ write_of most stamp ks vs o
+    (stamp : ℕ) (o : List ℕ) → done o (Err Unwritten.BadPairs) ≡ write_of most stamp ks vs o
 unfolding write_of
 write_bad most ks vs g f y stamp o = rw (← f, y)
 

@@ -12,22 +12,23 @@ use lib.ListN.{length, take, drop}
 use lib.Seq.{sets, sets-eq, take-append_seam, drop-append_seam}
 use lib.Dec.{leb}
 use borrow.Author.Tests.{leb-true, leb-false}
+use Rattle.std.specs.Prelude.{Result, Ok, Err}
 use Rattle.text.proofs.Basics.{impossible}
 use Rattle.listing.specs.Listing.{listing_of, good_pairs, done, write_of}
 use Rattle.listing.specs.Refusals.{number_of, Good}
-use Rattle.listing.specs.declared.Written.{Written}
+use Rattle.listing.specs.declared.Unwritten.{Unwritten}
 use Rattle.listing.proofs.Pairs.{good_is}
 
 -- ---- the three ways out
 
-data Way (most : ℕ) (ks vs bytes out o : List ℕ) (r : Written) : Type 0 where
-  bad : (Good most ks vs → ⊥) → r ≡ Written.BadPairs → o ≡ out → Way most ks vs bytes out o r
-  short : Good most ks vs → length out < length bytes → r ≡ Written.NoRoom → o ≡ out →
+data Way (most : ℕ) (ks vs bytes out o : List ℕ) (r : Result ℕ Unwritten) : Type 0 where
+  bad : (Good most ks vs → ⊥) → r ≡ Err Unwritten.BadPairs → o ≡ out → Way most ks vs bytes out o r
+  short : Good most ks vs → length out < length bytes → r ≡ Err Unwritten.NoRoom → o ≡ out →
       Way most ks vs bytes out o r
-  all : Good most ks vs → length bytes ≤ length out → r ≡ Written.Length (length bytes) → o ≡ sets out 0 bytes →
+  all : Good most ks vs → length bytes ≤ length out → r ≡ Ok (length bytes) → o ≡ sets out 0 bytes →
       Way most ks vs bytes out o r
 
-way_of : (most stamp : ℕ) (ks vs out o : List ℕ) (r : Written) → done o r ≡ write_of most stamp ks vs out →
+way_of : (most stamp : ℕ) (ks vs out o : List ℕ) (r : Result ℕ Unwritten) → done o r ≡ write_of most stamp ks vs out →
     Way most ks vs (listing_of stamp ks vs) out o r
 unfolding write_of
 way_of most stamp ks vs out o r =
@@ -35,8 +36,8 @@ way_of most stamp ks vs out o r =
   where
     by : (t u : Bool) → good_pairs most ks vs ≡ t → leb (length (listing_of stamp ks vs)) (length out) ≡ u →
         done o r ≡
-        cond t (cond u (done (sets out 0 (listing_of stamp ks vs)) (Written.Length (length (listing_of stamp ks vs))))
-        (done out Written.NoRoom)) (done out Written.BadPairs) →
+        cond t (cond u (done (sets out 0 (listing_of stamp ks vs)) (Ok (length (listing_of stamp ks vs))))
+        (done out (Err Unwritten.NoRoom))) (done out (Err Unwritten.BadPairs)) →
         Way most ks vs (listing_of stamp ks vs) out o r
     by true true g h w =
         all ((good_is most ks vs).0 g) (leb-true (length (listing_of stamp ks vs)) (length out) h) (cc) (cc)
@@ -47,7 +48,7 @@ way_of most stamp ks vs out o r =
 
 -- ---- each of them, for an outcome that the contract of `write` allows
 
-module _ (most stamp : ℕ) (ks vs out o : List ℕ) (r : Written) (told : done o r ≡ write_of most stamp ks vs out) where
+module _ (most stamp : ℕ) (ks vs out o : List ℕ) (r : Result ℕ Unwritten) (told : done o r ≡ write_of most stamp ks vs out) where
   abbrev bytes : List ℕ
   bytes = listing_of stamp ks vs
 
@@ -95,10 +96,10 @@ module _ (most stamp : ℕ) (ks vs out o : List ℕ) (r : Written) (told : done 
     pub first : take n o ≡ bytes
     pub others : drop n o ≡ drop n out
 
-  pub written : (n : ℕ) → r ≡ Written.Length n → Whole n
+  pub written : (n : ℕ) → r ≡ Ok n → Whole n
   written n = by (way_of most stamp ks vs out o r told)
     where
-      by : Way most ks vs bytes out o r → r ≡ Written.Length n → Whole n
+      by : Way most ks vs bytes out o r → r ≡ Ok n → Whole n
       by (bad m e k) h = impossible (cc)
       by (short g l e k) h = impossible (cc)
       by (all g l e k) h =

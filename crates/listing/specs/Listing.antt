@@ -2,10 +2,11 @@
 -- In order: names; lines; the listing; the pairs that may be written; writing.
 -- Not here: reading (the crate above), what 11 and 12 mean in document 01's words (Refusals).
 -- Assumes nothing.
+use Rattle.std.specs.Prelude.{Result, Ok, Err}
 use Rattle.std.specs.Prelude.{ℕ, ◌+◌, ◌*◌, List, [], ◌∷◌, ◌++◌, Bool, true, false, cond, length, leb, eqb}
 use Rattle.std.proofs.lemmas.List.Edits.{sets}
 use Rattle.text.specs.Text.{largest, digits}
-use Rattle.listing.specs.declared.Written.{Written}
+use Rattle.listing.specs.declared.Unwritten.{Unwritten}
 
 -- ---- names, each with its `=`
 
@@ -71,12 +72,12 @@ good_pairs most ks vs =
 
 -- the output afterwards, and the answer
 pub data Done : Type 0 where
-  done : List ℕ → Written → Done
+  done : List ℕ → Result ℕ Unwritten → Done
 
 unfoldable pub write_of : ℕ → ℕ → List ℕ → List ℕ → List ℕ → Done
 write_of most stamp ks vs out =
     cond (good_pairs most ks vs)
     (cond (leb (length (listing_of stamp ks vs)) (length out))
-    (done (sets out 0 (listing_of stamp ks vs)) (Written.Length (length (listing_of stamp ks vs))))
-    (done out Written.NoRoom))
-    (done out Written.BadPairs)
+    (done (sets out 0 (listing_of stamp ks vs)) (Ok (length (listing_of stamp ks vs))))
+    (done out (Err Unwritten.NoRoom)))
+    (done out (Err Unwritten.BadPairs))

@@ -1,21 +1,21 @@
 -- Document 01's numbers for the answers of writing, and what the refusal table says of 12.
 -- In order: numbers and values; the pairs that are not refused.
 -- Not here: the order of refusals (Listing, `write_of`). Assumes nothing.
-use Rattle.std.specs.Prelude.{ℕ, ◌+◌, ◌≤◌, ◌<◌, ◌≡◌, List, [], ◌∷◌, length, get_or}
+use Rattle.std.specs.Prelude.{ℕ, ◌+◌, ◌≤◌, ◌<◌, ◌≡◌, List, [], ◌∷◌, length, get_or, Result, Ok, Err}
 use Rattle.text.specs.Text.{largest}
-use Rattle.listing.specs.declared.Written.{Written}
+use Rattle.listing.specs.declared.Unwritten.{Unwritten}
 
 -- the refusal number, and 0 for what is no refusal
-abbrev pub number_of : Written → ℕ
-number_of (Written.Length n) = 0
-number_of Written.NoRoom = 11
-number_of Written.BadPairs = 12
+abbrev pub number_of : Result ℕ Unwritten → ℕ
+number_of (Ok n) = 0
+number_of (Err Unwritten.NoRoom) = 11
+number_of (Err Unwritten.BadPairs) = 12
 
 -- the numbers that the answer gives
-abbrev pub values_of : Written → List ℕ
-values_of (Written.Length n) = n ∷ []
-values_of Written.NoRoom = []
-values_of Written.BadPairs = []
+abbrev pub values_of : Result ℕ Unwritten → List ℕ
+values_of (Ok n) = n ∷ []
+values_of (Err Unwritten.NoRoom) = []
+values_of (Err Unwritten.BadPairs) = []
 
 -- as many keys as values, not more than `most`, each in bounds, strictly rising
 pub record Good (most : ℕ) (ks vs : List ℕ) : Type 0 where

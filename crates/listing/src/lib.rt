@@ -1,5 +1,5 @@
 // The listing (document 01): writing it.
-// In order: the answer; one line; a pair; pairs; the parts; sizes; the pairs that may be written; writing.
+// In order: refusals; one line; a pair; pairs; the parts; sizes; the pairs that may be written; writing.
 // Not here: reading (the crate above). Every byte goes straight to its place, and no scratch row is made.
 // The writers of parts ask for room, which `write` has checked; `write` itself asks for nothing.
 #![tactic(auto)]
@@ -9,11 +9,20 @@ ghost use Rattle.text.specs.Text.{Puts};
 ghost use Rattle.listing.specs.Listing.{field_of, pair_of, pairs, head_of, body_of, listing_of};
 ghost use Rattle.listing.specs.Listing.{key_room, rising, good_pairs, done, write_of};
 
+// Why nothing was written: 11 or 12.
 #[derive(Clone, Copy)]
-pub enum Written {
-    Length(usize),
+pub enum Unwritten {
     NoRoom,
     BadPairs,
+}
+
+// Keys, each with its value at the same place.
+#[derive(Clone, Copy)]
+struct Listed<'a> {
+    keys: &'a [u32],
+    values: &'a [u32],
+    ghost same: { length keys.now ≡ length values.now },
+    ghost few: { length keys.now ≤ 65536 },
 }
 
 // Writes one line.
@@ -35,17 +44,13 @@ fn put_pair(out: &mut [u8], place: usize, k: u32, v: u32) -> usize
     put_field(out, a, b"value=", v)
 }
 
-// Writes the keys, each with its value.
-fn put_pairs(out: &mut [u8], place: usize, keys: &[u32], values: &[u32]) -> usize
-    requires { (length keys.now ≡ length values.now) ×
-        (place + length (pairs keys.now values.now) ≤ length out.old) }
-    ensures { Puts out.old out.new place (pairs keys.now values.now) result }
+fn put_pairs(out: &mut [u8], place: usize, listed: &Listed) -> usize
+    requires { place + length (pairs listed.now.keys.now listed.now.values.now) ≤ length out.old }
+    ensures { Puts out.old out.new place (pairs listed.now.keys.now listed.now.values.now) result }
 {
     let mut p = place;
-    let mut i: usize = 0;
-    while i < keys.len() {
-        p = put_pair(out, p, keys[i], values[i]);
-        i += 1;
+    for (&k, &v) in listed.keys.iter().zip(listed.values) {
+        p = put_pair(out, p, k, v);
     }
     p
 }
@@ -60,24 +65,22 @@ fn put_head(out: &mut [u8], place: usize, stamp: u32) -> usize
 }
 
 // Writes the pairs and their number.
-fn put_body(out: &mut [u8], place: usize, keys: &[u32], values: &[u32]) -> usize
-    requires { (length keys.now ≡ length values.now) × (length keys.now ≤ 65536) ×
-        (place + length (body_of keys.now values.now) ≤ length out.old) }
-    ensures { Puts out.old out.new place (body_of keys.now values.now) result }
+fn put_body(out: &mut [u8], place: usize, listed: &Listed) -> usize
+    requires { place + length (body_of listed.now.keys.now listed.now.values.now) ≤ length out.old }
+    ensures { Puts out.old out.new place (body_of listed.now.keys.now listed.now.values.now) result }
 {
-    let a = put_pairs(out, place, keys, values);
-    put_field(out, a, b"count=", keys.len() as u32)
+    let a = put_pairs(out, place, listed);
+    put_field(out, a, b"count=", listed.keys.len() as u32)
 }
 
 // Writes all of it, and answers the place after it.
-fn put_listing(out: &mut [u8], place: usize, stamp: u32, keys: &[u32], values: &[u32]) -> usize
-    requires { (length keys.now ≡ length values.now) × (length keys.now ≤ 65536) ×
-        (place + length (listing_of stamp keys.now values.now) ≤ length out.old) }
+fn put_listing(out: &mut [u8], place: usize, stamp: u32, listed: &Listed) -> usize
+    requires { place + length (listing_of stamp listed.now.keys.now listed.now.values.now) ≤ length out.old }
     ensures { Puts out.old out.new place
-        (listing_of stamp keys.now values.now) result }
+        (listing_of stamp listed.now.keys.now listed.now.values.now) result }
 {
     let a = put_head(out, place, stamp);
-    put_body(out, a, keys, values)
+    put_body(out, a, listed)
 }
 
 // How many bytes a pair takes.
@@ -88,43 +91,33 @@ fn pair_size(k: u32, v: u32) -> usize
 }
 
 // How many bytes the pairs take.
-fn pairs_size(keys: &[u32], values: &[u32]) -> usize
-    requires { (length keys.now ≡ length values.now) × (length keys.now ≤ 65536) }
-    ensures { (result ≡ length (pairs keys.now values.now)) × (result ≤ 4194304) }
+fn pairs_size(listed: &Listed) -> usize
+    ensures { (result ≡ length (pairs listed.now.keys.now listed.now.values.now)) × (result ≤ 4194304) }
 {
-    let mut n: usize = 0;
-    let mut i: usize = 0;
-    while i < keys.len() {
-        n += pair_size(keys[i], values[i]);
-        i += 1;
+    let mut n = 0;
+    for (&k, &v) in listed.keys.iter().zip(listed.values) {
+        n += pair_size(k, v);
     }
     n
 }
 
 // How many bytes the listing takes.
-fn size(stamp: u32, keys: &[u32], values: &[u32]) -> usize
-    requires { (length keys.now ≡ length values.now) × (length keys.now ≤ 65536) }
-    ensures { result ≡ length (listing_of stamp keys.now values.now) }
+fn size(stamp: u32, listed: &Listed) -> usize
+    ensures { result ≡ length (listing_of stamp listed.now.keys.now listed.now.values.now) }
 {
-    24 + text::width(stamp as u64) + pairs_size(keys, values) + text::width(keys.len() as u64)
+    24 + text::width(stamp as u64) + pairs_size(listed) + text::width(listed.keys.len() as u64)
 }
 
 // Whether the keys are in bounds and rise.
 fn rises(keys: &[u32]) -> bool
     ensures { result ≡ rising 0 keys.now }
 {
-    let mut last: u32 = 0;
-    let mut i: usize = 0;
-    while i < keys.len() {
-        let k = keys[i];
-        if k <= last {
-            return false;
-        }
-        if 4294967295 <= k {
+    let mut last = 0;
+    for &k in keys {
+        if k <= last || 4294967295 <= k {
             return false;
         }
         last = k;
-        i += 1;
     }
     true
 }
@@ -132,27 +125,21 @@ fn rises(keys: &[u32]) -> bool
 fn good_pairs(most: u32, keys: &[u32], values: &[u32]) -> bool
     ensures { result ≡ good_pairs most keys.now values.now }
 {
-    if keys.len() == values.len() {
-        if keys.len() <= most as usize {
-            return rises(keys);
-        }
-        return false;
-    }
-    false
+    keys.len() == values.len() && keys.len() <= most as usize && rises(keys)
 }
 
-// Writes a listing of a stamp, keys and values, as those that a range over all keys hands out with its snapshot.
-// A refusal changes nothing, and no byte past the length changes.
-pub fn write(stamp: u32, keys: &[u32], values: &[u32], out: &mut [u8]) -> Written
+// Writes a listing of a stamp, keys and values, as those that a range over all keys hands out with its snapshot, and
+// answers its length. A refusal changes nothing, and no byte past the length changes.
+pub fn write(stamp: u32, keys: &[u32], values: &[u32], out: &mut [u8]) -> Result<usize, Unwritten>
     ensures { done out.new result ≡
         write_of key_room stamp keys.now values.now out.old }
 {
-    if good_pairs(510, keys, values) {
-        let n = size(stamp, keys, values);
-        if n <= out.len() {
-            return Written::Length(put_listing(out, 0, stamp, keys, values));
-        }
-        return Written::NoRoom;
+    if !good_pairs(510, keys, values) {
+        return Err(Unwritten::BadPairs);
     }
-    Written::BadPairs
+    let listed = Listed { keys, values };
+    if out.len() < size(stamp, &listed) {
+        return Err(Unwritten::NoRoom);
+    }
+    Ok(put_listing(out, 0, stamp, &listed))
 }

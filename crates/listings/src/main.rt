@@ -4,7 +4,7 @@
 // numbers; the tables lent are all 7, and `words` counts every word of them afterwards.
 #![tactic(auto)]
 
-use listing::Written;
+use listing::Unwritten;
 use loading::Loaded;
 use scanning::Reading;
 use serving::files;
@@ -32,9 +32,9 @@ fn write_back(
 ) -> io::Result<()> {
     let mut out = [0u8; 16357];
     match listing::write(stamp, keys, values, &mut out) {
-        Written::Length(k) => show_back(rt, &out, k, input),
-        Written::NoRoom => say::one(rt, b"refused=", 11),
-        Written::BadPairs => say::one(rt, b"refused=", 12),
+        Ok(k) => show_back(rt, &out, k, input),
+        Err(Unwritten::NoRoom) => say::one(rt, b"refused=", 11),
+        Err(Unwritten::BadPairs) => say::one(rt, b"refused=", 12),
     }
 }
 

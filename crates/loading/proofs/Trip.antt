@@ -6,6 +6,7 @@ use mathlib.Core.Path.{◌≡◌, refl, ◌∙◌, ap}
 use mathlib.Core.List.{List, []}
 use native.Mathlib.Omega.{arith}
 use lib.ListN.{length, take}
+use Rattle.std.specs.Prelude.{Ok}
 use Rattle.text.specs.Text.{largest}
 use Rattle.terms.specs.declared.Size.{Size}
 use Rattle.steps.specs.Steps.{tables}
@@ -13,7 +14,7 @@ use Rattle.register.specs.Register.{fresh_counters}
 use Rattle.listing.specs.Listing.{listing_of, write_of}
 use Rattle.listing.specs.Listing.{done as written_done}
 use Rattle.listing.specs.Refusals.{Good, Fit}
-use Rattle.listing.specs.declared.Written.{Written}
+use Rattle.listing.specs.declared.Unwritten.{Unwritten}
 use Rattle.listing.proofs.Pairs.{good_fit}
 use Rattle.listing.proofs.Refusals.{written}
 use Rattle.scanning.specs.Refusals.{IsListing}
@@ -50,10 +51,10 @@ module _ (z : Size) (roomy : Roomy z) (stamp : ℕ) (ks vs ns es : List ℕ) (fs
       )
 
   -- ---- what was written, loaded
-  pub round_trip : (out o : List ℕ) (n : ℕ) → written_done o (Written.Length n) ≡ write_of z.keys stamp ks vs out →
+  pub round_trip : (out o : List ℕ) (n : ℕ) → written_done o (Ok n) ≡ write_of z.keys stamp ks vs out →
       load_of z (take n o) ns es ≡ Register
   round_trip out o n told =
-      let all = written z.keys stamp ks vs out o (Written.Length n) told n refl in
+      let all = written z.keys stamp ks vs out o (Ok n) told n refl in
       rw all.first (load_listing all.good)
 
   -- the tables hold the pairs
@@ -69,11 +70,11 @@ module _ (z : Size) (roomy : Roomy z) (stamp : ℕ) (ks vs ns es : List ℕ) (fs
 
   -- and its set is those pairs
   pub round_trip_holds : (out o ns' es' : List ℕ) (n : ℕ) (r : Loaded) →
-      written_done o (Written.Length n) ≡ write_of z.keys stamp ks vs out →
+      written_done o (Ok n) ≡ write_of z.keys stamp ks vs out →
       done (tables ns' es') r ≡ load_of z (take n o) ns es → Holds ns' es' ks vs
   round_trip_holds out o ns' es' n r wrote loaded =
       let all : done (tables ns' es') r ≡ Register = loaded ∙ round_trip out o n wrote in
-      good_holds (written z.keys stamp ks vs out o (Written.Length n) wrote n refl).good ns' es' (cc)
+      good_holds (written z.keys stamp ks vs out o (Ok n) wrote n refl).good ns' es' (cc)
 
 -- ---- every register that is loaded: the listing that it was read from, and the tables and counters
 pub record LoadedAs (z : Size) (s ns es ns' es' : List ℕ) (r : Loaded) : Type 0 where

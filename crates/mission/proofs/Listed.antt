@@ -9,6 +9,7 @@ use mathlib.Core.List.{List, [], ◌∷◌}
 use native.Mathlib.Omega.{arith}
 use lib.ListN.{length, take, length-map}
 use borrow.Author.Tests.{le-leb}
+use Rattle.std.specs.Prelude.{Ok}
 use Rattle.order.specs.Set.{Pair, key_of, Over, Rises, within}
 use Rattle.order.specs.History.{empty, up_to, entry, members, head}
 use Rattle.order.proofs.Tests.{ltb_cases, leb_cases}
@@ -21,7 +22,7 @@ use Rattle.sixteen.specs.declared.Call.{Call}
 use Rattle.listing.specs.Listing.{rising, good_pairs, key_room, listing_of, write_of}
 use Rattle.listing.specs.Listing.{Done, done as written_done}
 use Rattle.listing.specs.Refusals.{Good, Fit}
-use Rattle.listing.specs.declared.Written.{Written}
+use Rattle.listing.specs.declared.Unwritten.{Unwritten}
 use Rattle.listing.proofs.Pairs.{rising_cons, good_rise, good_is, good_fit}
 use Rattle.listing.proofs.Refusals.{written}
 use Rattle.listing.proofs.Length.{length_small}
@@ -167,7 +168,7 @@ module _ (t : ℕ) (list : List Pair) (F : Fine t list) (out : List ℕ) (room :
 
   -- ---- written
   abbrev Writes : Done → Type 0
-  Writes d = (o : List ℕ) × (n : ℕ) × (d ≡ written_done o (Written.Length n))
+  Writes d = (o : List ℕ) × (n : ℕ) × (d ≡ written_done o (Ok n))
 
   writes : Writes (write_of key_room t ks vs out)
   unfolding write_of
@@ -190,7 +191,7 @@ module _ (t : ℕ) (list : List Pair) (F : Fine t list) (out : List ℕ) (room :
         writes.0 writes.1 (sym writes.2)
 
     listing : bytes ≡ listing_of t ks vs
-    listing = (written key_room t ks vs out writes.0 (Written.Length writes.1) (sym writes.2) writes.1 refl
+    listing = (written key_room t ks vs out writes.0 (Ok writes.1) (sym writes.2) writes.1 refl
         ).first
 
     pairs_in : pairs_of (keys_in bytes) (values_in bytes) ≡ list

@@ -1,7 +1,7 @@
 -- A list written as a listing and read back is the same register: its keys and values, at the list's one moment.
 -- In order: a list's keys and values; a list written and read back; room for any listing; the sentence.
 -- Not here: the proof (proofs/Listed.antt). Assumes nothing.
-use Rattle.std.specs.Prelude.{ℕ, ◌≤◌, ◌≡◌, List, map, length, take}
+use Rattle.std.specs.Prelude.{ℕ, ◌≤◌, ◌≡◌, List, map, length, take, Ok}
 use Rattle.order.specs.Set.{Pair, key_of}
 use Rattle.terms.specs.Terms.{small}
 use Rattle.terms.specs.declared.Counters.{Counters}
@@ -11,7 +11,7 @@ use Rattle.sixteen.specs.declared.Call.{Call}
 use Rattle.sixteen.specs.Sixteen.{fresh_register}
 use Rattle.listing.specs.Listing.{key_room, write_of}
 use Rattle.listing.specs.Listing.{done as written}
-use Rattle.listing.specs.declared.Written.{Written}
+use Rattle.listing.specs.declared.Unwritten.{Unwritten}
 use Rattle.loading.specs.Loading.{done, load_of}
 use Rattle.loading.specs.declared.Loaded.{Loaded}
 use Rattle.reached.specs.Reached.{State, who_of, answer, Past, Reached}
@@ -42,7 +42,7 @@ pub record ReadAs (bytes ns es : List ℕ) (set : List Pair) : Type 0 where
 pub record Listed (t : ℕ) (list : List Pair) (out : List ℕ) (set : List Pair) : Type 0 where
   pub output : List ℕ
   pub count : ℕ
-  pub writes : write_of key_room t (keys_of list) (values_of list) out ≡ written output (Written.Length count)
+  pub writes : write_of key_room t (keys_of list) (values_of list) out ≡ written output (Ok count)
   pub reads : (ns es : List ℕ) → length ns ≡ 3072 → length es ≡ 8192 → ReadAs (take count output) ns es set
 
 -- ---- the longest listing's bytes

@@ -10,6 +10,7 @@ use native.Mathlib.Nat.{zero-add}
 use lib.ListN.{length, take}
 use lib.Seq.{sets}
 use borrow.Author.Tests.{lt-leb, eq-eqb}
+use Rattle.std.specs.Prelude.{Ok}
 use Rattle.text.specs.Text.{largest, digits, Lines, over, line, lines_of, ends, class_of, field_in, starts_with}
 use Rattle.std.specs.Prelude.{Option, Some, None}
 use Rattle.text.proofs.Back.{plain, plain_append, plain_digits, lines_plain, field_back}
@@ -18,7 +19,7 @@ use Rattle.listing.specs.Listing.{edition_name, stamp_name, key_name, value_name
 use Rattle.listing.specs.Listing.{field_of, pair_of, pairs, head_of, body_of, listing_of, rising, write_of}
 use Rattle.listing.specs.Listing.{done as written_done}
 use Rattle.listing.specs.Refusals.{Good, Fit}
-use Rattle.listing.specs.declared.Written.{Written}
+use Rattle.listing.specs.declared.Unwritten.{Unwritten}
 use Rattle.listing.proofs.Pairs.{good_is, good_counts, good_fit, rising_on}
 use Rattle.listing.proofs.Refusals.{written}
 use Rattle.scanning.specs.Reading.{edition_of, stamp_of, value_of, count_of, keyed, key_of, scan_of, check_of}
@@ -163,8 +164,8 @@ module _ (most stamp : ℕ) (ks vs : List ℕ) (small : most ≤ largest) (fs : 
       (rw (keys_back stamp ks vs good.same (good_fit most ks vs good), values_back stamp ks vs good.same fv))
 
   -- and so what writing wrote
-  pub round_trip : (out o ko vo : List ℕ) (n : ℕ) → written_done o (Written.Length n) ≡ write_of most stamp ks vs out →
+  pub round_trip : (out o ko vo : List ℕ) (n : ℕ) → written_done o (Ok n) ≡ write_of most stamp ks vs out →
       read_of most (take n o) ko vo ≡ done (sets ko 0 ks) (sets vo 0 vs) (Reading.Whole stamp (length ks))
   round_trip out o ko vo n told =
-      let all = written most stamp ks vs out o (Written.Length n) told n refl in
+      let all = written most stamp ks vs out o (Ok n) told n refl in
       rw all.first (read_listing ko vo all.good)

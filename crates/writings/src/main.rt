@@ -5,14 +5,14 @@
 
 ghost use Rattle.std.specs.Prelude.{◌≤◌};
 
-use listing::Written;
+use listing::Unwritten;
 use std::{array, io};
 
-fn show(rt: &impl Print, written: Written) -> io::Result<()> {
+fn show(rt: &impl Print, written: Result<usize, Unwritten>) -> io::Result<()> {
     match written {
-        Written::Length(length) => println!(rt; "written={length}"),
-        Written::NoRoom => println!(rt; "refused=11"),
-        Written::BadPairs => println!(rt; "refused=12"),
+        Ok(length) => println!(rt; "written={length}"),
+        Err(Unwritten::NoRoom) => println!(rt; "refused=11"),
+        Err(Unwritten::BadPairs) => println!(rt; "refused=12"),
     }
 }
 
