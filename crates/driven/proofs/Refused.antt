@@ -10,6 +10,7 @@ use mathlib.Core.Bool.{Bool, true, false, cond}
 use mathlib.Core.List.{List}
 use lib.ListN.{length}
 use lib.Dec.{ltb, eqb}
+use Rattle.std.specs.Prelude.{Result, Ok, Err}
 use Rattle.terms.specs.Terms.{Refuses}
 use Rattle.terms.specs.declared.Size.{Size}
 use Rattle.terms.specs.declared.Op.{Op}
@@ -21,12 +22,13 @@ use Rattle.register.specs.Register.{fits, opened, fresh_nodes, fresh_entries, fr
 use Rattle.register.specs.Register.{step_of}
 use Rattle.demands.specs.Demands.{answer_of, Kept}
 use Rattle.demands.proofs.Demand1.{demand_1}
-use Rattle.scanning.specs.declared.Reading.{Reading}
+use Rattle.scanning.specs.declared.Whole.{Whole}
+use Rattle.scanning.specs.declared.Unread.{Unread}
 use Rattle.scanning.specs.Reading.{check_of}
 use Rattle.loading.specs.Filing.{used}
 use Rattle.loading.specs.Loading.{loaded_tables, on_reading, load_of}
 use Rattle.loading.specs.Loading.{done as loads}
-use Rattle.loading.specs.declared.Loaded.{Loaded}
+use Rattle.loading.specs.declared.Unloaded.{Unloaded}
 use Rattle.std.specs.Prelude.{Result, Ok, Err}
 use Rattle.encoding.specs.declared.Malformed.{Malformed}
 use Rattle.encoding.specs.Encoding.{encode, op_from, decode}
@@ -122,16 +124,16 @@ module _ (z : Size) (ns es ws : List ℕ) (n : ℕ) (some : n ≢ 0) (ns' es' ws
   refused_fresh told = fresh_by (eqb (length ws) 147) (fits z ns es) told
 
   module _ (input out out' : List ℕ) where
-    loaded_by : (r : Reading) (t : Bool) → left ns' es' ws' out' n ≡ after_read ws out (cond t
-        (on_reading input ns es r) (loads (tables ns es) Loaded.BadTable)) → Unchanged ns es ws ns' es' ws'
+    loaded_by : (r : Result Whole Unread) (t : Bool) → left ns' es' ws' out' n ≡ after_read ws out (cond t
+        (on_reading input ns es r) (loads (tables ns es) (Err Unloaded.BadTable))) → Unchanged ns es ws ns' es' ws'
     unfolding number_of
-    loaded_by (Reading.Whole stamp count) true told = whole (loaded_tables input ns es) told
+    loaded_by (Ok w) true told = whole (loaded_tables input ns es) told
       where
-        whole : (t : Tables) → left ns' es' ws' out' n ≡ after_read ws out (loads t (Loaded.Register (used count)))
+        whole : (t : Tables) → left ns' es' ws' out' n ≡ after_read ws out (loads t (Ok (used w.count)))
             → Unchanged ns es ws ns' es' ws'
         whole (tables ns₁ es₁) told = let z : n ≡ 0 = cc in absurd (some z)
-    loaded_by (Reading.BadListing offset) true told = record { nodes = cc; entries = cc; words = cc }
-    loaded_by Reading.TooMany true told = record { nodes = cc; entries = cc; words = cc }
+    loaded_by (Err (Unread.BadListing offset)) true told = record { nodes = cc; entries = cc; words = cc }
+    loaded_by (Err Unread.TooMany) true told = record { nodes = cc; entries = cc; words = cc }
     loaded_by r false told = record { nodes = cc; entries = cc; words = cc }
 
     read_by : (a b : Bool) → left ns' es' ws' out' n ≡ cond a

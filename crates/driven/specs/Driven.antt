@@ -4,7 +4,7 @@
 -- `ns` and `es` are the tables, `ws` the counters' and records' words, `out` the answer's; those behind a call have a
 -- stroke.
 -- Not here: the library's calls (crate ffi), reached registers (crate reached). Assumes nothing.
-use Rattle.std.specs.Prelude.{ℕ, ◌+◌, ◌-◌, ◌≤◌, ◌<◌, ◌≡◌, ◌⊎◌, true, List, [], ◌∷◌, ◌++◌, length, replicate}
+use Rattle.std.specs.Prelude.{ℕ, ◌+◌, ◌-◌, ◌≤◌, ◌<◌, ◌≡◌, ◌⊎◌, true, List, [], ◌∷◌, ◌++◌, length, replicate, Ok}
 use Rattle.terms.specs.Terms.{small}
 use Rattle.terms.specs.declared.Counters.{Counters}
 use Rattle.terms.specs.declared.Op.{Op}
@@ -16,7 +16,7 @@ use Rattle.sixteen.specs.Sixteen.{fresh_register}
 use Rattle.fairness.specs.Calls.{after}
 use Rattle.reached.specs.Reached.{State, record_of, go, answer, Past, no_past, Reached}
 use Rattle.loading.specs.Loading.{done, load_of}
-use Rattle.loading.specs.declared.Loaded.{Loaded}
+use Rattle.loading.specs.declared.Unloaded.{Unloaded}
 use Rattle.loaded.specs.Calls.{answers, inserts, keys_in, values_in}
 use Rattle.onward.specs.Onward.{has_room}
 use Rattle.several.specs.Several.{Handed, handed, said_of, hand_out}
@@ -111,7 +111,7 @@ StepsIs = (σ : State) (ns es ws ps out ns' es' ws' ps' out' : List ℕ) (who li
 pub record Reads (input ns es out ns' es' ws' out' : List ℕ) : Type 0 where
   pub counters : Counters
   pub past : Past
-  pub loads : load_of small input ns es ≡ done (tables ns' es') (Loaded.Register counters)
+  pub loads : load_of small input ns es ≡ done (tables ns' es') (Ok counters)
   pub holds : Holds ns' es' ws' (all_idle ns' es' counters)
   pub reached : Reached small (all_idle ns' es' counters) past
   pub updates : past.updates ≡ inserts (keys_in input) (values_in input)

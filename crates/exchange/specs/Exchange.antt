@@ -8,7 +8,8 @@ use Rattle.steps.specs.Steps.{tables}
 use Rattle.listing.specs.Listing.{Done as ListingDone, done as listed, write_of}
 use Rattle.listing.specs.declared.Unwritten.{Unwritten}
 use Rattle.loading.specs.Loading.{Done as LoadingDone, done as loads, load_of}
-use Rattle.loading.specs.declared.Loaded.{Loaded}
+use Rattle.terms.specs.declared.Counters.{Counters}
+use Rattle.loading.specs.declared.Unloaded.{Unloaded}
 use Rattle.packing.specs.declared.Reply.{Reply}
 use Rattle.packing.specs.Packing.{fresh_words, reply_with, refused_by, number_of, put_reply}
 
@@ -50,17 +51,15 @@ pub data Left : Type 0 where
 abbrev pub stays : List ℕ → List ℕ → List ℕ → List ℕ → ℕ → Left
 stays ns es ws out number = left ns es ws (put_reply out (refused_by number)) number
 
-abbrev pub loaded_reply : Loaded → Reply
-loaded_reply (Loaded.Register c) = reply_with 11 c.stamp 0
-loaded_reply Loaded.BadTable = refused_by 7
-loaded_reply (Loaded.BadListing offset) = reply_with 0 9 (as_word offset)
-loaded_reply Loaded.TooMany = refused_by 10
+abbrev pub loaded_reply : Result Counters Unloaded → Reply
+loaded_reply (Ok c) = reply_with 11 c.stamp 0
+loaded_reply (Err Unloaded.BadTable) = refused_by 7
+loaded_reply (Err (Unloaded.BadListing offset)) = reply_with 0 9 (as_word offset)
+loaded_reply (Err Unloaded.TooMany) = refused_by 10
 
-abbrev pub loaded_words : List ℕ → Loaded → List ℕ
-loaded_words ws (Loaded.Register c) = fresh_words ws c
-loaded_words ws Loaded.BadTable = ws
-loaded_words ws (Loaded.BadListing offset) = ws
-loaded_words ws Loaded.TooMany = ws
+abbrev pub loaded_words : List ℕ → Result Counters Unloaded → List ℕ
+loaded_words ws (Ok c) = fresh_words ws c
+loaded_words ws (Err e) = ws
 
 abbrev pub after_read : List ℕ → List ℕ → LoadingDone → Left
 after_read ws out (loads (tables ns es) l) =

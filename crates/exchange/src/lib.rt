@@ -11,9 +11,9 @@ ghost use Rattle.exchange.specs.Exchange.{told, given, written_reply, wrote, wri
 ghost use Rattle.exchange.specs.Exchange.{left, loaded_reply, loaded_words, read_loaded, read_call};
 
 use listing::Unwritten;
-use loading::Loaded;
+use loading::Unloaded;
 use packing::Reply;
-use terms::Refusal;
+use terms::{Counters, Refusal};
 
 // Puts a reply, and returns what the call returns.
 pub fn give(answer: &mut [u32], reply: Reply) -> u32
@@ -58,43 +58,31 @@ pub fn write_listing(
 }
 
 // An offset is a word too: it is at most the length of the longest listing.
-fn loaded_reply(l: Loaded) -> Reply
+fn loaded_reply(l: Result<Counters, Unloaded>) -> Reply
     ensures { result ≡ loaded_reply l }
 {
     match l {
-        Loaded::Register(c) => Reply {
+        Ok(c) => Reply {
             name: 11,
             first: c.stamp,
             ..Reply::default()
         },
-        Loaded::BadTable => Reply::from(Refusal::BadTable),
-        Loaded::BadListing(offset) => Reply {
+        Err(Unloaded::BadTable) => Reply::from(Refusal::BadTable),
+        Err(Unloaded::BadListing(offset)) => Reply {
             name: 0,
             first: 9,
             second: (offset % 4294967296) as u32,
         },
-        Loaded::TooMany => packing::refused(10),
+        Err(Unloaded::TooMany) => packing::refused(10),
     }
 }
 
 // The loaded register's counters, and all sessions idle; a refusal changes nothing.
-fn put_loaded(words: &mut [u32], l: Loaded)
+fn put_loaded(words: &mut [u32], l: Result<Counters, Unloaded>)
     ensures { words.new ≡ loaded_words words.old l }
 {
-    match l {
-        Loaded::Register(c) => {
-            packing::fresh_words(words, c);
-            return;
-        }
-        Loaded::BadTable => {
-            return;
-        }
-        Loaded::BadListing(_) => {
-            return;
-        }
-        Loaded::TooMany => {
-            return;
-        }
+    if let Ok(c) = l {
+        packing::fresh_words(words, c);
     }
 }
 

@@ -5,11 +5,12 @@
 #![tactic(auto)]
 
 use listing::Unwritten;
-use loading::Loaded;
-use scanning::Reading;
+use loading::Unloaded;
+use scanning::{Unread, Whole};
 use serving::files;
 use std::fs::File;
 use std::io;
+use terms::Counters;
 
 // ---- reading and writing back
 
@@ -42,7 +43,7 @@ fn reads(rt: &impl Print, input: &[u8]) -> io::Result<()> {
     let mut keys = [0u32; 510];
     let mut values = [0u32; 510];
     match scanning::read(510, input, &mut keys, &mut values) {
-        Reading::Whole(stamp, count) => {
+        Ok(Whole { stamp, count }) => {
             say::two(rt, b"read=", stamp as u64, count as u64)?;
             let n = count as usize;
             if n <= 510 {
@@ -50,8 +51,8 @@ fn reads(rt: &impl Print, input: &[u8]) -> io::Result<()> {
             }
             Ok(())
         }
-        Reading::BadListing(p) => say::two(rt, b"refused=", 9, p as u64),
-        Reading::TooMany => say::one(rt, b"refused=", 10),
+        Err(Unread::BadListing(p)) => say::two(rt, b"refused=", 9, p as u64),
+        Err(Unread::TooMany) => say::one(rt, b"refused=", 10),
     }
 }
 
@@ -64,18 +65,18 @@ fn sum(words: &[u32]) -> u64 {
     })
 }
 
-fn show_loaded(rt: &impl Print, r: Loaded) -> io::Result<()> {
+fn show_loaded(rt: &impl Print, r: Result<Counters, Unloaded>) -> io::Result<()> {
     match r {
-        Loaded::Register(c) => say::three(
+        Ok(c) => say::three(
             rt,
             b"loaded=",
             c.nodes as u64,
             c.entries as u64,
             c.stamp as u64,
         ),
-        Loaded::BadTable => say::one(rt, b"refused=", 7),
-        Loaded::BadListing(p) => say::two(rt, b"refused=", 9, p as u64),
-        Loaded::TooMany => say::one(rt, b"refused=", 10),
+        Err(Unloaded::BadTable) => say::one(rt, b"refused=", 7),
+        Err(Unloaded::BadListing(p)) => say::two(rt, b"refused=", 9, p as u64),
+        Err(Unloaded::TooMany) => say::one(rt, b"refused=", 10),
     }
 }
 

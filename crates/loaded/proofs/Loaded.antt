@@ -9,6 +9,7 @@ use mathlib.Core.Bool.{Bool, true, false, cond}
 use mathlib.Core.List.{List, [], ◌∷◌, ◌++◌, append-nil}
 use native.Mathlib.Omega.{arith}
 use lib.ListN.{length, replicate}
+use Rattle.std.specs.Prelude.{Ok}
 use Rattle.order.specs.Set.{key_of, Rises, set_after}
 use Rattle.order.proofs.Sets.{set_rises}
 use Rattle.terms.specs.Terms.{small}
@@ -36,7 +37,7 @@ use Rattle.scanning.proofs.Cases.{empty_read}
 use Rattle.scanning.proofs.Trip.{keys_back, values_back}
 use Rattle.loading.specs.Filing.{used, filed_all, fresh_tables}
 use Rattle.loading.specs.Loading.{done, loaded_tables, load_of}
-use Rattle.loading.specs.declared.Loaded.{Loaded}
+use Rattle.loading.specs.declared.Unloaded.{Unloaded}
 use Rattle.loading.proofs.Refusals.{fits_lengths}
 use Rattle.loading.proofs.Trip.{Roomy, LoadedAs, loaded_holds}
 use Rattle.loaded.specs.Calls.{inserting, filing, filed_so, inserts, pairs_of, keys_in, values_in, past_after}
@@ -74,11 +75,11 @@ module _ (z : Size) (s ns es ns' es' : List ℕ) (c : Counters) where
     counters = rw (← e) counters;
   }
 
-  pub loaded_read : Roomy z → load_of z s ns es ≡ done (tables ns' es') (Loaded.Register c) →
+  pub loaded_read : Roomy z → load_of z s ns es ≡ done (tables ns' es') (Ok c) →
       Read z s ns es ns' es' c
   loaded_read roomy told =
-      let l : LoadedAs z s ns es ns' es' (Loaded.Register c) =
-      loaded_holds z roomy s ns es ns' es' (Loaded.Register c) (sym told) refl in
+      let l : LoadedAs z s ns es ns' es' (Ok c) =
+      loaded_holds z roomy s ns es ns' es' (Ok c) (sym told) refl in
       let is = l.listing in
       let counts = good_counts z.keys is.ks is.vs ((good_is z.keys is.ks is.vs).1 is.good) in
       let register = l.counters in
@@ -111,7 +112,7 @@ filing_words (k ∷ ks) (v ∷ vs) i b up fit =
 
 -- ---- the theorem
 module _ (z : Size) (roomy : Roomy z) (updates : z.keys ≤ z.updates) (s ns es ns' es' : List ℕ) (c : Counters)
-    (told : load_of z s ns es ≡ done (tables ns' es') (Loaded.Register c)) where
+    (told : load_of z s ns es ≡ done (tables ns' es') (Ok c)) where
   read : Read z s ns es ns' es' c
   read = loaded_read z s ns es ns' es' c roomy told
 
@@ -164,13 +165,13 @@ module _ (z : Size) (roomy : Roomy z) (updates : z.keys ≤ z.updates) (s ns es 
 
 -- ---- for document 01's size
 pub loaded_reached : (s ns es ns' es' : List ℕ) (c : Counters) →
-    load_of small s ns es ≡ done (tables ns' es') (Loaded.Register c) →
+    load_of small s ns es ≡ done (tables ns' es') (Ok c) →
     (h : Past) × Reached small (record { nodes = ns'; entries = es'; register = fresh_register c }) h
     × (h.updates ≡ inserts (keys_in s) (values_in s)) × (h.under ≡ λ who. Op.None)
 loaded_reached s ns es ns' es' c told = loaded_reached_with small small_roomy (omega arith) s ns es ns' es' c told
 
 pub loaded_set_now : (s ns es ns' es' : List ℕ) (c : Counters) →
-    load_of small s ns es ≡ done (tables ns' es') (Loaded.Register c) →
+    load_of small s ns es ≡ done (tables ns' es') (Ok c) →
     (h : Past) × Reached small (record { nodes = ns'; entries = es'; register = fresh_register c }) h
     × (set_after [] h.updates ≡ pairs_of (keys_in s) (values_in s))
 loaded_set_now s ns es ns' es' c told =
@@ -199,7 +200,7 @@ opened_fits z ns es ns' es' c = by (fits z ns es) refl
     by false fit h = impossible (cc)
 
 pub p12 : (ns es ns' es' : List ℕ) (c : Counters) → fresh_of small ns es ≡ fresh_opened ns' es' (Opened.Ready c) →
-    load_of small empty_listing ns es ≡ done (tables ns' es') (Loaded.Register c)
+    load_of small empty_listing ns es ≡ done (tables ns' es') (Ok c)
 unfolding load_of loaded_tables filed_all
 p12 ns es ns' es' c told =
     let f = opened_fits small ns es ns' es' c told in

@@ -3,7 +3,7 @@
 -- under way.
 -- In order: a listing's history; registers made; histories that tell the same of what is under way.
 -- Not here: that each is a reached one with such a history (proofs/Made.antt). Assumes nothing.
-use Rattle.std.specs.Prelude.{ℕ, ◌≡◌, ◌≢◌, List, []}
+use Rattle.std.specs.Prelude.{ℕ, ◌≡◌, ◌≢◌, List, [], Ok}
 use Rattle.terms.specs.declared.Size.{Size}
 use Rattle.terms.specs.declared.Counters.{Counters}
 use Rattle.terms.specs.declared.Op.{Op}
@@ -14,7 +14,7 @@ use Rattle.sixteen.specs.declared.Call.{Call}
 use Rattle.sixteen.specs.Sixteen.{fresh_register}
 use Rattle.reached.specs.Reached.{State, go, Past, no_past, note, InWords}
 use Rattle.loading.specs.Loading.{done, load_of}
-use Rattle.loading.specs.declared.Loaded.{Loaded}
+use Rattle.loading.specs.declared.Unloaded.{Unloaded}
 use Rattle.loaded.specs.Calls.{inserts, keys_in, values_in}
 
 abbrev pub listed_past : List ℕ → Past
@@ -29,7 +29,7 @@ pub data Made (z : Size) : State → Past → Type 0 where
   fresh : (ns es ns' es' : List ℕ) (c : Counters) → fresh_of z ns es ≡ opened ns' es' (Opened.Ready c) →
       Made z (record { nodes = ns'; entries = es'; register = fresh_register c }) no_past
   loaded : (s ns es ns' es' : List ℕ) (c : Counters) →
-      load_of z s ns es ≡ done (tables ns' es') (Loaded.Register c) →
+      load_of z s ns es ≡ done (tables ns' es') (Ok c) →
       Made z (record { nodes = ns'; entries = es'; register = fresh_register c }) (listed_past s)
   on : {σ : State} {h : Past} → Made z σ h → (c : Call) → InWords c → Made z (go z σ c) (note z σ c h)
 

@@ -9,17 +9,20 @@ use native.Mathlib.Omega.{arith}
 use lib.ListN.{length}
 use lib.Dec.{eqb}
 use borrow.Author.Tests.{eq-eqb, eqb-true}
+use Rattle.std.specs.Prelude.{Result, Ok, Err}
 use Rattle.text.proofs.Basics.{impossible}
 use Rattle.terms.specs.declared.Size.{Size}
 use Rattle.steps.specs.Steps.{Tables, tables}
 use Rattle.register.specs.Register.{fits}
-use Rattle.scanning.specs.Reading.{check_of}
+use Rattle.scanning.specs.Reading.{whole, check_of}
 use Rattle.scanning.specs.Refusals.{FirstBad, OneMore}
-use Rattle.scanning.specs.declared.Reading.{Reading}
+use Rattle.scanning.specs.declared.Whole.{Whole}
+use Rattle.scanning.specs.declared.Unread.{Unread}
 use Rattle.scanning.proofs.Refusals.{bad_listing, too_many}
 use Rattle.loading.specs.Filing.{used}
 use Rattle.loading.specs.Loading.{number_of, values_of, done, on_reading, loaded_tables, load_of}
-use Rattle.loading.specs.declared.Loaded.{Loaded}
+use Rattle.terms.specs.declared.Counters.{Counters}
+use Rattle.loading.specs.declared.Unloaded.{Unloaded}
 
 -- ---- the ways out
 
@@ -41,30 +44,30 @@ lengths_fit z ns es = by (eqb (length ns) (z.nodes * 6)) (eqb (length es) (z.ent
     by true false e f h = impossible (cc)
     by false c e f h = impossible (cc)
 
-pub data Way (z : Size) (s ns es : List ℕ) (t : Tables) (r : Loaded) : Type 0 where
-  bad_table : ¬ Lengths z ns es → r ≡ Loaded.BadTable → t ≡ tables ns es → Way z s ns es t r
-  bad : (p : ℕ) → Lengths z ns es → check_of z.keys s ≡ Reading.BadListing p → r ≡ Loaded.BadListing p →
+pub data Way (z : Size) (s ns es : List ℕ) (t : Tables) (r : Result Counters Unloaded) : Type 0 where
+  bad_table : ¬ Lengths z ns es → r ≡ Err Unloaded.BadTable → t ≡ tables ns es → Way z s ns es t r
+  bad : (p : ℕ) → Lengths z ns es → check_of z.keys s ≡ Err (Unread.BadListing p) → r ≡ Err (Unloaded.BadListing p) →
       t ≡ tables ns es → Way z s ns es t r
-  many : Lengths z ns es → check_of z.keys s ≡ Reading.TooMany → r ≡ Loaded.TooMany → t ≡ tables ns es →
+  many : Lengths z ns es → check_of z.keys s ≡ Err Unread.TooMany → r ≡ Err Unloaded.TooMany → t ≡ tables ns es →
       Way z s ns es t r
-  register : (stamp count : ℕ) → Lengths z ns es → check_of z.keys s ≡ Reading.Whole stamp count →
-      r ≡ Loaded.Register (used count) → t ≡ loaded_tables s ns es → Way z s ns es t r
+  register : (stamp count : ℕ) → Lengths z ns es → check_of z.keys s ≡ whole stamp count →
+      r ≡ Ok (used count) → t ≡ loaded_tables s ns es → Way z s ns es t r
 
-pub way_of : (z : Size) (s ns es : List ℕ) (t : Tables) (r : Loaded) → done t r ≡ load_of z s ns es →
+pub way_of : (z : Size) (s ns es : List ℕ) (t : Tables) (r : Result Counters Unloaded) → done t r ≡ load_of z s ns es →
     Way z s ns es t r
 unfolding load_of
 way_of z s ns es t r = by (fits z ns es) (check_of z.keys s) refl refl
   where
-    by : (b : Bool) (a : Reading) → fits z ns es ≡ b → check_of z.keys s ≡ a →
-        done t r ≡ cond b (on_reading s ns es a) (done (tables ns es) Loaded.BadTable) → Way z s ns es t r
+    by : (b : Bool) (a : Result Whole Unread) → fits z ns es ≡ b → check_of z.keys s ≡ a →
+        done t r ≡ cond b (on_reading s ns es a) (done (tables ns es) (Err Unloaded.BadTable)) → Way z s ns es t r
     by false a e g h = bad_table (λ l. let w = fits_lengths z ns es l in impossible (cc)) (cc) (cc)
-    by true (Reading.BadListing p) e g h = bad p (lengths_fit z ns es e) g (cc) (cc)
-    by true Reading.TooMany e g h = many (lengths_fit z ns es e) g (cc) (cc)
-    by true (Reading.Whole stamp count) e g h = register stamp count (lengths_fit z ns es e) g (cc) (cc)
+    by true (Err (Unread.BadListing p)) e g h = bad p (lengths_fit z ns es e) g (cc) (cc)
+    by true (Err Unread.TooMany) e g h = many (lengths_fit z ns es e) g (cc) (cc)
+    by true (Ok w) e g h = register w.stamp w.count (lengths_fit z ns es e) g (cc) (cc)
 
 -- ---- for an outcome that the contract of `load` allows
 
-module _ (z : Size) (s ns es : List ℕ) (t : Tables) (r : Loaded) (told : done t r ≡ load_of z s ns es) where
+module _ (z : Size) (s ns es : List ℕ) (t : Tables) (r : Result Counters Unloaded) (told : done t r ≡ load_of z s ns es) where
   abbrev Out : Type 0
   Out = Way z s ns es t r
 
@@ -96,7 +99,7 @@ module _ (z : Size) (s ns es : List ℕ) (t : Tables) (r : Loaded) (told : done 
       to (bad_table n e k) h = absurd (omega (arith, ap number_of e, h.0))
       to (bad q l c e k) h =
           let same : q ∷ [] ≡ p ∷ [] = sym (ap values_of e) ∙ h.1 in
-          let w : check_of z.keys s ≡ Reading.BadListing p = cc in (l, (bad_listing z.keys s p).0 w)
+          let w : check_of z.keys s ≡ Err (Unread.BadListing p) = cc in (l, (bad_listing z.keys s p).0 w)
       to (many l c e k) h = absurd (omega (arith, ap number_of e, h.0))
       to (register stamp count l c e k) h = absurd (omega (arith, ap number_of e, h.0))
 

@@ -6,7 +6,7 @@ use mathlib.Core.Path.{◌≡◌, refl, ◌∙◌, ap}
 use mathlib.Core.List.{List, []}
 use native.Mathlib.Omega.{arith}
 use lib.ListN.{length, take}
-use Rattle.std.specs.Prelude.{Ok}
+use Rattle.std.specs.Prelude.{Ok, Result}
 use Rattle.text.specs.Text.{largest}
 use Rattle.terms.specs.declared.Size.{Size}
 use Rattle.steps.specs.Steps.{tables}
@@ -22,7 +22,8 @@ use Rattle.scanning.proofs.OneWay.{check_only}
 use Rattle.scanning.proofs.Trip.{check_back, keys_back, values_back}
 use Rattle.loading.specs.Filing.{used, filed_all, fresh_tables}
 use Rattle.loading.specs.Loading.{Done, done, loaded_tables, load_of, number_of}
-use Rattle.loading.specs.declared.Loaded.{Loaded}
+use Rattle.terms.specs.declared.Counters.{Counters}
+use Rattle.loading.specs.declared.Unloaded.{Unloaded}
 use Rattle.loading.specs.Members.{Holds}
 use Rattle.loading.proofs.Refusals.{Lengths, fits_lengths, Way, bad_table, bad, many, register, way_of}
 use Rattle.loading.proofs.Chain.{members}
@@ -37,7 +38,7 @@ pub record Roomy (z : Size) : Type 0 where
 module _ (z : Size) (roomy : Roomy z) (stamp : ℕ) (ks vs ns es : List ℕ) (fs : stamp ≤ largest) (fv : Fit vs)
     (lengths : Lengths z ns es) where
   abbrev Register : Done
-  Register = done (filed_all 0 ks vs (fresh_tables ns es)) (Loaded.Register (used (length ks)))
+  Register = done (filed_all 0 ks vs (fresh_tables ns es)) (Ok (used (length ks)))
 
   -- the stamp is checked as a number and not used further
   pub load_listing : Good z.keys ks vs → load_of z (listing_of stamp ks vs) ns es ≡ Register
@@ -69,7 +70,7 @@ module _ (z : Size) (roomy : Roomy z) (stamp : ℕ) (ks vs ns es : List ℕ) (fs
       rw (← same) at (members ns es ks vs good.same (omega arith) (omega arith))
 
   -- and its set is those pairs
-  pub round_trip_holds : (out o ns' es' : List ℕ) (n : ℕ) (r : Loaded) →
+  pub round_trip_holds : (out o ns' es' : List ℕ) (n : ℕ) (r : Result Counters Unloaded) →
       written_done o (Ok n) ≡ write_of z.keys stamp ks vs out →
       done (tables ns' es') r ≡ load_of z (take n o) ns es → Holds ns' es' ks vs
   round_trip_holds out o ns' es' n r wrote loaded =
@@ -77,21 +78,21 @@ module _ (z : Size) (roomy : Roomy z) (stamp : ℕ) (ks vs ns es : List ℕ) (fs
       good_holds (written z.keys stamp ks vs out o (Ok n) wrote n refl).good ns' es' (cc)
 
 -- ---- every register that is loaded: the listing that it was read from, and the tables and counters
-pub record LoadedAs (z : Size) (s ns es ns' es' : List ℕ) (r : Loaded) : Type 0 where
+pub record LoadedAs (z : Size) (s ns es ns' es' : List ℕ) (r : Result Counters Unloaded) : Type 0 where
   pub stamp : ℕ
   pub count : ℕ
   pub lengths : Lengths z ns es
   pub listing : IsListing z.keys s stamp count
   pub filed : tables ns' es' ≡ filed_all 0 listing.ks listing.vs (fresh_tables ns es)
-  pub counters : r ≡ Loaded.Register (used (length listing.ks))
+  pub counters : r ≡ Ok (used (length listing.ks))
   pub set : Holds ns' es' listing.ks listing.vs
 
-module _ (z : Size) (roomy : Roomy z) (s ns es ns' es' : List ℕ) (r : Loaded)
+module _ (z : Size) (roomy : Roomy z) (s ns es ns' es' : List ℕ) (r : Result Counters Unloaded)
     (told : done (tables ns' es') r ≡ load_of z s ns es) where
   read_from : (stamp count : ℕ) → Lengths z ns es → IsListing z.keys s stamp count → LoadedAs z s ns es ns' es' r
   read_from stamp count lengths is =
       let all : done (tables ns' es') r ≡
-      done (filed_all 0 is.ks is.vs (fresh_tables ns es)) (Loaded.Register (used (length is.ks))) =
+      done (filed_all 0 is.ks is.vs (fresh_tables ns es)) (Ok (used (length is.ks))) =
       told ∙ (rw (← is.bytes) at
       (load_listing z roomy stamp is.ks is.vs ns es is.stamp_fits is.values_fit lengths is.good)) in
       let same : tables ns' es' ≡ filed_all 0 is.ks is.vs (fresh_tables ns es) = cc in
@@ -117,7 +118,7 @@ module _ (z : Size) (roomy : Roomy z) (s ns es ns' es' : List ℕ) (r : Loaded)
 
 -- ---- P12: the empty listing reads as fresh
 pub empty_fresh : (z : Size) → Roomy z → (ns es : List ℕ) → Lengths z ns es →
-    load_of z (listing_of 0 [] []) ns es ≡ done (fresh_tables ns es) (Loaded.Register fresh_counters)
+    load_of z (listing_of 0 [] []) ns es ≡ done (fresh_tables ns es) (Ok fresh_counters)
 unfolding filed_all
 empty_fresh z roomy ns es lengths =
     load_listing z roomy 0 [] [] ns es (omega arith) (λ i. omega arith) lengths

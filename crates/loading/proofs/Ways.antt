@@ -8,6 +8,7 @@ use native.Mathlib.Omega.{arith}
 use lib.ListN.{length, take}
 use lib.Seq.{sets, sets-eq, take-append_seam, length-sets, length-take-le}
 use mathlib.Core.Bool.{Bool, true, false}
+use Rattle.std.specs.Prelude.{Result, Ok, Err}
 use Rattle.terms.specs.Terms.{small}
 use Rattle.terms.specs.declared.Size.{Size}
 use Rattle.terms.specs.declared.Counters.{Counters}
@@ -17,12 +18,14 @@ use Rattle.text.specs.Text.{lines_of}
 use Rattle.listing.specs.Listing.{key_name, value_name}
 use Rattle.scanning.specs.Reading.{numbers_in, read_of}
 use Rattle.scanning.specs.Reading.{done as read_done}
-use Rattle.scanning.specs.declared.Reading.{Reading}
+use Rattle.scanning.specs.declared.Whole.{Whole}
+use Rattle.scanning.specs.declared.Unread.{Unread}
 use Rattle.scanning.proofs.OneWay.{Handed, handed}
 use Rattle.scanning.proofs.Refusals.{read_checks}
+use Rattle.loading.specs.Refused.{unloaded}
 use Rattle.loading.specs.Filing.{used, filed_all, fresh_tables}
 use Rattle.loading.specs.Loading.{done, loaded_tables, load_of}
-use Rattle.loading.specs.declared.Loaded.{Loaded}
+use Rattle.loading.specs.declared.Unloaded.{Unloaded}
 
 -- ---- the keys and values that reading gave
 
@@ -32,60 +35,57 @@ taken l x n e h =
     let room : 0 + length x ≤ length l = omega arith in
     rw (← e, sets-eq x l 0 room, take-append_seam)
 
-module _ (most : ℕ) (s ko vo ks vs : List ℕ) (r : Reading) (told : read_done ks vs r ≡ read_of most s ko vo)
-    (stamp count : ℕ) (whole : r ≡ Reading.Whole stamp count) where
-  all_handed : Handed most s count
-  all_handed = handed most s stamp count (sym (read_checks most s ko vo ks vs r told) ∙ whole)
+module _ (most : ℕ) (s ko vo ks vs : List ℕ) (r : Result Whole Unread) (told : read_done ks vs r ≡ read_of most s ko vo)
+    (w : Whole) (answer : r ≡ Ok w) where
+  all_handed : Handed most s w.count
+  all_handed = handed most s w.stamp w.count (sym (read_checks most s ko vo ks vs r told) ∙ answer)
 
-  pub count_room : count ≤ most
+  pub count_room : w.count ≤ most
   count_room = all_handed.few
 
   stored : read_done ks vs r ≡
       read_done (sets ko 0 (numbers_in key_name (lines_of s))) (sets vo 0 (numbers_in value_name (lines_of s)))
-      (Reading.Whole stamp count)
+      (Ok w)
   unfolding read_of
-  stored = rw (sym (read_checks most s ko vo ks vs r told) ∙ whole) at told
+  stored = rw (sym (read_checks most s ko vo ks vs r told) ∙ answer) at told
 
   keys_stored : ks ≡ sets ko 0 (numbers_in key_name (lines_of s))
-  keys_stored = let w = stored in cc
+  keys_stored = let all = stored in cc
 
   values_stored : vs ≡ sets vo 0 (numbers_in value_name (lines_of s))
-  values_stored = let w = stored in cc
+  values_stored = let all = stored in cc
 
-  pub keys_room : length ko ≡ most → count ≤ length ks
+  pub keys_room : length ko ≡ most → w.count ≤ length ks
   keys_room e =
       let few = count_room in
       rw (keys_stored, length-sets ko 0 (numbers_in key_name (lines_of s))) (omega arith)
 
-  pub values_room : length vo ≡ most → count ≤ length vs
+  pub values_room : length vo ≡ most → w.count ≤ length vs
   values_room e =
       let few = count_room in
       rw (values_stored, length-sets vo 0 (numbers_in value_name (lines_of s))) (omega arith)
 
-  pub keys_count : length ko ≡ most → count ≡ length (take count ks)
-  keys_count e = sym (length-take-le count ks (keys_room e))
+  pub keys_count : length ko ≡ most → w.count ≡ length (take w.count ks)
+  keys_count e = sym (length-take-le w.count ks (keys_room e))
 
-  pub values_count : length vo ≡ most → count ≡ length (take count vs)
-  values_count e = sym (length-take-le count vs (values_room e))
+  pub values_count : length vo ≡ most → w.count ≡ length (take w.count vs)
+  values_count e = sym (length-take-le w.count vs (values_room e))
 
-  pub same_count : length ko ≡ most → length vo ≡ most → length (take count ks) ≡ length (take count vs)
-  same_count e f = sym (keys_count e) ∙ values_count f
-
-  pub count_small : most ≤ 65535 → count < 65536
+  pub count_small : most ≤ 65535 → w.count < 65536
   count_small h = let few = count_room in omega arith
 
-  pub few_count : length ko ≡ most → most ≤ 65535 → length (take count ks) < 65536
+  pub few_count : length ko ≡ most → most ≤ 65535 → length (take w.count ks) < 65536
   few_count e h = let few = count_room in omega (arith, keys_count e)
 
-  keys_taken : length ko ≡ most → take count ks ≡ numbers_in key_name (lines_of s)
+  keys_taken : length ko ≡ most → take w.count ks ≡ numbers_in key_name (lines_of s)
   keys_taken e =
       let h = all_handed in
-      rw keys_stored (taken ko (numbers_in key_name (lines_of s)) count h.keys (omega arith))
+      rw keys_stored (taken ko (numbers_in key_name (lines_of s)) w.count h.keys (omega arith))
 
-  values_taken : length vo ≡ most → take count vs ≡ numbers_in value_name (lines_of s)
+  values_taken : length vo ≡ most → take w.count vs ≡ numbers_in value_name (lines_of s)
   values_taken e =
       let h = all_handed in
-      rw values_stored (taken vo (numbers_in value_name (lines_of s)) count h.values (omega arith))
+      rw values_stored (taken vo (numbers_in value_name (lines_of s)) w.count h.values (omega arith))
 
 -- document 01's number of keys
 pub keys_few : small.keys ≤ 65535
@@ -96,7 +96,6 @@ pub ruleset handing = (
   values_room,
   keys_count,
   values_count,
-  same_count,
   few_count,
   count_small,
   keys_few,
@@ -104,28 +103,25 @@ pub ruleset handing = (
 
 -- ---- a register, or a refusal of the listing
 
-module _ (z : Size) (s ns es : List ℕ) (fit : fits z ns es ≡ true) (ko vo ks vs : List ℕ) (r : Reading)
+module _ (z : Size) (s ns es : List ℕ) (fit : fits z ns es ≡ true) (ko vo ks vs : List ℕ) (r : Result Whole Unread)
     (told : read_done ks vs r ≡ read_of z.keys s ko vo) where
-  pub load_whole : (stamp count : ℕ) → r ≡ Reading.Whole stamp count → length ko ≡ z.keys → length vo ≡ z.keys →
-      (c : Counters) → c ≡ used count → (t : Tables) →
-      t ≡ filed_all 0 (take count ks) (take count vs) (fresh_tables ns es) →
-      done t (Loaded.Register c) ≡ load_of z s ns es
+  pub load_whole : (w : Whole) → r ≡ Ok w → length ko ≡ z.keys → length vo ≡ z.keys →
+      (c : Counters) → c ≡ used w.count → (t : Tables) →
+      t ≡ filed_all 0 (take w.count ks) (take w.count vs) (fresh_tables ns es) →
+      done t (Ok c) ≡ load_of z s ns es
   unfolding load_of loaded_tables
-  load_whole stamp count whole ek ev c used_up t e =
+  load_whole w whole ek ev c used_up t e =
       let answer = sym (read_checks z.keys s ko vo ks vs r told) ∙ whole in
       rw (fit, answer, e, used_up)
-      (rw (keys_taken z.keys s ko vo ks vs r told stamp count whole ek)
-      (rw (values_taken z.keys s ko vo ks vs r told stamp count whole ev)))
+      (rw (keys_taken z.keys s ko vo ks vs r told w whole ek)
+      (rw (values_taken z.keys s ko vo ks vs r told w whole ev)))
 
-  pub load_bad : (p : ℕ) → r ≡ Reading.BadListing p → done (tables ns es) (Loaded.BadListing p) ≡ load_of z s ns es
+  pub load_refused : (e : Unread) (u : Unloaded) → r ≡ Err e → u ≡ unloaded e →
+      done (tables ns es) (Err u) ≡ load_of z s ns es
   unfolding load_of
-  load_bad p e = let answer = sym (read_checks z.keys s ko vo ks vs r told) ∙ e in rw (fit, answer)
+  load_refused e u h k = let answer = sym (read_checks z.keys s ko vo ks vs r told) ∙ h in rw (fit, answer, k)
 
-  pub load_many : r ≡ Reading.TooMany → done (tables ns es) Loaded.TooMany ≡ load_of z s ns es
-  unfolding load_of
-  load_many e = let answer = sym (read_checks z.keys s ko vo ks vs r told) ∙ e in rw (fit, answer)
-
-pub ruleset loads = (load_whole, load_bad, load_many)
+pub ruleset loads = (load_whole, load_refused)
 
 -- ---- the tables' lengths first
 
@@ -133,7 +129,7 @@ module _ (z y : Size) (s ns es : List ℕ) (b : Bool) (size : y ≡ z) (test : b
   pub right_tables : b ≡ true → fits z ns es ≡ true
   right_tables h = rw (← size, ← test, h)
 
-  pub bad_tables : b ≡ false → done (tables ns es) Loaded.BadTable ≡ load_of z s ns es
+  pub bad_tables : b ≡ false → done (tables ns es) (Err Unloaded.BadTable) ≡ load_of z s ns es
   unfolding load_of
   bad_tables h = rw (← size, ← test, h)
 

@@ -1,8 +1,9 @@
 -- Words into tables: each way through the writers of words, over plain values.
 -- In order: one key more; all keys; the tables' lengths; fresh tables, then all keys. Assumes nothing.
 use Prim.Native.Nat.{ℕ, ◌+◌, ◌*◌, ◌≤◌, ◌<◌}
-use mathlib.Core.Path.{◌≡◌, refl, ◌∙◌}
-use mathlib.Core.List.{List, ◌∷◌}
+use mathlib.Core.Path.{◌≡◌, refl, sym, ap, ◌∙◌}
+use mathlib.Core.List.{List, [], ◌∷◌}
+use mathlib.Core.Logic.{◌⊎◌, inl, inr}
 use mathlib.Core.Bool.{Bool, true, false, cond}
 use native.Mathlib.Omega.{arith}
 use native.Mathlib.Numerals.{add-one}
@@ -77,29 +78,37 @@ module _ (c : Counters) where
 
 pub ruleset files = (prepares_node, files_node, prepares_entries, files_entries, files_one, entries_room, stamp_room)
 
--- ---- all keys: what is left to file makes the whole
+-- ---- all keys: those that are left, from the i-th on, make the whole
 
-pub all_none : (ks vs : List ℕ) (t : Tables) → filed_all 0 ks vs t ≡ filed_all 0 (drop 0 ks) (drop 0 vs) t
-all_none ks vs t = refl
+pub record Rest (ks vs : List ℕ) (t : Tables) (i : ℕ) (left left' : List ℕ) (u : Tables) : Type 0 where
+  pub keys : i + length left ≡ length ks
+  pub all : filed_all 0 ks vs t ≡ filed_all i left left' u
 
-all_first : (i k v : ℕ) (ks vs : List ℕ) (t : Tables) →
-    filed_all i (k ∷ ks) (v ∷ vs) t ≡ filed_all (i + 1) ks vs (filed i k v t)
-unfolding filed_all
-all_first i k v ks vs t = refl
+pub all_none : (ks vs : List ℕ) (t : Tables) → Rest ks vs t 0 ks vs t
+all_none ks vs t = record { keys = omega arith; all = refl }
 
-module _ (ks vs : List ℕ) (i : ℕ) (t u : Tables)
-    (inv : filed_all 0 ks vs t ≡ filed_all i (drop i ks) (drop i vs) u) where
-  pub all_on : (w : Tables) → i < length ks → length ks ≡ length vs → w ≡ filed i (get_or ks i 0) (get_or vs i 0) u →
-      filed_all 0 ks vs t ≡ filed_all (i + 1) (drop (i + 1) ks) (drop (i + 1) vs) w
-  all_on w h same a =
-      let k : i < length vs = omega arith in
-      rw (inv, drop-cons ks i 0 h, drop-cons vs i 0 k, all_first, add-one, a)
+module _ (ks vs : List ℕ) (t : Tables) (i : ℕ) (left left' : List ℕ) (u : Tables) (rest : Rest ks vs t i left left' u) where
+  module _ (k v : ℕ) (ks' vs' : List ℕ) (first : left ≡ k ∷ ks') (second : left' ≡ v ∷ vs') where
+    pub all_on : (w : Tables) → w ≡ filed i k v u → Rest ks vs t (i + 1) ks' vs' w
+    unfolding filed_all
+    all_on w a =
+        record { keys = omega (arith, rest.keys, ap length first); all = rw (rest.all, first, second, a) }
 
-  pub all_over : length ks ≤ i → u ≡ filed_all 0 ks vs t
+    pub all_room : length ks < 65536 → i < 65536
+    all_room h = omega (arith, rest.keys, ap length first)
+
+  pub all_over : (length left ≡ 0) ⊎ (length left' ≡ 0) → u ≡ filed_all 0 ks vs t
   unfolding filed_all
-  all_over h = rw (inv, drop_of_length-le ks h)
+  all_over none = by left left' none rest.all
+    where
+      by : (x y : List ℕ) → (length x ≡ 0) ⊎ (length y ≡ 0) → filed_all 0 ks vs t ≡ filed_all i x y u →
+          u ≡ filed_all 0 ks vs t
+      by [] y none h = sym h
+      by (k ∷ x) [] none h = sym h
+      by (k ∷ x) (v ∷ y) (inl e) h = absurd (omega arith)
+      by (k ∷ x) (v ∷ y) (inr e) h = absurd (omega arith)
 
-pub ruleset all_filed = (all_none, all_on, all_over)
+pub ruleset all_filed = (all_none, all_on, all_over, all_room)
 
 -- ---- the tables' lengths
 

@@ -1,5 +1,5 @@
 // Reading a listing into lent register tables (document 01).
-// In order: the answer; one key more; all keys; loading.
+// In order: refusals; one key more; all keys; loading.
 // Not here: fresh tables (crate register), the steps of an insert (crate steps). The input is checked and its numbers
 // are gathered before the first word of a table changes, so that a refusal changes nothing. Assumes nothing.
 #![tactic(auto)]
@@ -8,21 +8,32 @@ ghost use Rattle.std.specs.Prelude.{◌≡◌, true, ◌+◌, ◌≤◌, ◌<◌
 ghost use Rattle.terms.specs.Terms.{small};
 ghost use Rattle.steps.specs.Steps.{tables};
 ghost use Rattle.register.specs.Register.{fits};
+ghost use Rattle.loading.specs.Refused.{unloaded};
 ghost use Rattle.loading.specs.Filing.{used, pred_of, prepared_nodes, filed_nodes};
 ghost use Rattle.loading.specs.Filing.{prepared_entries, filed_entries, filed, filed_all, fresh_tables};
 ghost use Rattle.loading.specs.Loading.{done, load_of};
 
 use nodes::{NEWEST, NEXT};
-use scanning::Reading;
+use scanning::Unread;
 use terms::Counters;
 
-// The counters of the register that was loaded, or a refusal: 7, 9 with its offset, or 10.
+// Why no register was loaded: 7, 9 with its offset, or 10.
 #[derive(Clone, Copy)]
-pub enum Loaded {
-    Register(Counters),
+pub enum Unloaded {
     BadTable,
     BadListing(usize),
     TooMany,
+}
+
+impl From<Unread> for Unloaded {
+    ghost from_gives = { λ e u. u ≡ unloaded e };
+
+    fn from(e: Unread) -> Unloaded {
+        match e {
+            Unread::BadListing(place) => Unloaded::BadListing(place),
+            Unread::TooMany => Unloaded::TooMany,
+        }
+    }
 }
 
 // The counters where i keys are filed.
@@ -42,10 +53,7 @@ fn pred(i: u32) -> u32
     requires { i < 65536 }
     ensures { result ≡ pred_of i }
 {
-    if i == 0 {
-        return 0;
-    }
-    i + 1
+    if i == 0 { 0 } else { i + 1 }
 }
 
 // What an insert's Prepare between pred and the tail writes: the new node, and both bundles' newest entries.
@@ -108,23 +116,20 @@ fn file(nodes: &mut [u32], entries: &mut [u32], i: u32, key: u32, value: u32)
     file_entries(entries, c, older);
 }
 
-// The tables with all keys.
+// The tables with all keys, each with the value at its place.
 fn file_all(nodes: &mut [u32], entries: &mut [u32], keys: &[u32], values: &[u32])
-    requires { (length keys.now ≡ length values.now) × (length keys.now < 65536) }
+    requires { length keys.now < 65536 }
     ensures { tables nodes.new entries.new ≡
         filed_all 0 keys.now values.now (tables nodes.old entries.old) }
 {
-    let mut i: usize = 0;
-    while i < keys.len() {
-        file(nodes, entries, i as u32, keys[i], values[i]);
-        i += 1;
+    for (i, (&key, &value)) in keys.iter().zip(values).enumerate() {
+        file(nodes, entries, i as u32, key, value);
     }
 }
 
 // Fresh tables, then all keys.
 fn fill(nodes: &mut [u32], entries: &mut [u32], keys: &[u32], values: &[u32])
-    requires { (length keys.now ≡ length values.now) × (length keys.now < 65536) ×
-        (fits small nodes.old entries.old ≡ true) }
+    requires { (length keys.now < 65536) × (fits small nodes.old entries.old ≡ true) }
     ensures { tables nodes.new entries.new ≡
         filed_all 0 keys.now values.now
         (fresh_tables nodes.old entries.old) }
@@ -134,33 +139,27 @@ fn fill(nodes: &mut [u32], entries: &mut [u32], keys: &[u32], values: &[u32])
 }
 
 // For tables of the right lengths.
-fn load_into(input: &[u8], nodes: &mut [u32], entries: &mut [u32]) -> Loaded
+fn load_into(input: &[u8], nodes: &mut [u32], entries: &mut [u32]) -> Result<Counters, Unloaded>
     requires { fits small nodes.old entries.old ≡ true }
     ensures { done (tables nodes.new entries.new) result ≡
         load_of small input.now nodes.old entries.old }
 {
     let mut keys = [0u32; 510];
     let mut values = [0u32; 510];
-    match scanning::read(510, input, &mut keys, &mut values) {
-        Reading::Whole(_, count) => {
-            let n = count as usize;
-            fill(nodes, entries, &keys[..n], &values[..n]);
-            Loaded::Register(count_used(count))
-        }
-        Reading::BadListing(p) => Loaded::BadListing(p),
-        Reading::TooMany => Loaded::TooMany,
-    }
+    let whole = scanning::read(510, input, &mut keys, &mut values)?;
+    let n = whole.count as usize;
+    fill(nodes, entries, &keys[..n], &values[..n]);
+    Ok(count_used(whole.count))
 }
 
 // Reads a listing into the two tables, which then hold what a fresh register holds after inserting the keys in order.
 // A refusal changes nothing.
-pub fn load(input: &[u8], nodes: &mut [u32], entries: &mut [u32]) -> Loaded
+pub fn load(input: &[u8], nodes: &mut [u32], entries: &mut [u32]) -> Result<Counters, Unloaded>
     ensures { done (tables nodes.new entries.new) result ≡
         load_of small input.now nodes.old entries.old }
 {
-    let z = terms::small_size();
-    if register::right_lengths(z, nodes, entries) {
-        return load_into(input, nodes, entries);
+    if !register::right_lengths(terms::small_size(), nodes, entries) {
+        return Err(Unloaded::BadTable);
     }
-    Loaded::BadTable
+    load_into(input, nodes, entries)
 }

@@ -29,7 +29,7 @@ use Rattle.listing.proofs.Length.{length_small}
 use Rattle.scanning.proofs.Trip.{keys_back, values_back}
 use Rattle.loading.specs.Filing.{used, filed_all, fresh_tables}
 use Rattle.loading.specs.Loading.{done, load_of}
-use Rattle.loading.specs.declared.Loaded.{Loaded}
+use Rattle.loading.specs.declared.Unloaded.{Unloaded}
 use Rattle.loading.proofs.Trip.{round_trip}
 use Rattle.loaded.specs.Calls.{pairs_of, keys_in, values_in}
 use Rattle.loaded.proofs.Loaded.{small_roomy, loaded_set_now}
@@ -186,7 +186,7 @@ module _ (t : ℕ) (list : List Pair) (F : Fine t list) (out : List ℕ) (room :
     abbrev register : Tables
     register = filed_all 0 ks vs (fresh_tables ns es)
 
-    loads : load_of small bytes ns es ≡ done register (Loaded.Register (used (length ks)))
+    loads : load_of small bytes ns es ≡ done register (Ok (used (length ks)))
     loads = round_trip small small_roomy t ks vs ns es (omega (arith, F.stamp)) F.fit (nodes, entries) out
         writes.0 writes.1 (sym writes.2)
 
@@ -200,7 +200,7 @@ module _ (t : ℕ) (list : List Pair) (F : Fine t list) (out : List ℕ) (room :
         (keys_back t ks vs (as_many list) (good_fit key_room ks vs good))
         ∙ ap (pairs_of ks) (values_back t ks vs (as_many list) F.fit) ∙ pairs_again list
 
-    read_as : (r : Tables) → load_of small bytes ns es ≡ done r (Loaded.Register (used (length ks)))
+    read_as : (r : Tables) → load_of small bytes ns es ≡ done r (Ok (used (length ks)))
         → ReadAs bytes ns es list
     read_as (tables ns' es') e =
         let d = loaded_set_now bytes ns es ns' es' (used (length ks)) e in

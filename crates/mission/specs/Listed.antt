@@ -13,7 +13,7 @@ use Rattle.listing.specs.Listing.{key_room, write_of}
 use Rattle.listing.specs.Listing.{done as written}
 use Rattle.listing.specs.declared.Unwritten.{Unwritten}
 use Rattle.loading.specs.Loading.{done, load_of}
-use Rattle.loading.specs.declared.Loaded.{Loaded}
+use Rattle.loading.specs.declared.Unloaded.{Unloaded}
 use Rattle.reached.specs.Reached.{State, who_of, answer, Past, Reached}
 use Rattle.reached.specs.Answers.{set_at, set_now}
 use Rattle.mission.specs.Mission.{whole}
@@ -33,7 +33,7 @@ pub record ReadAs (bytes ns es : List ℕ) (set : List Pair) : Type 0 where
   pub nodes : List ℕ
   pub entries : List ℕ
   pub counters : Counters
-  pub loads : load_of small bytes ns es ≡ done (tables nodes entries) (Loaded.Register counters)
+  pub loads : load_of small bytes ns es ≡ done (tables nodes entries) (Ok counters)
   pub past : Past
   pub reached : Reached small (record { nodes = nodes; entries = entries; register = fresh_register counters }) past
   pub holds : set_now past ≡ set

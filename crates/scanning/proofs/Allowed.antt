@@ -12,7 +12,7 @@ use lib.Seq.{drop-drop, drop-append-add}
 use lib.Dec.{eqb, leb}
 use borrow.Author.Tests.{le-leb, lt-leb, eq-eqb, eqb-true, leb-true, leb-false}
 use Rattle.text.specs.Text.{largest, digits, Lines, line, lines_of, ends, class_of, field_in}
-use Rattle.std.specs.Prelude.{Option, Some, None}
+use Rattle.std.specs.Prelude.{Option, Some, None, Result, Ok, Err}
 use Rattle.text.proofs.Basics.{impossible, split}
 use Rattle.text.proofs.Back.{plain, plain_append, plain_digits, lines_plain, field_back}
 use Rattle.text.proofs.OneWay.{field_only, line_only}
@@ -23,29 +23,29 @@ use Rattle.scanning.specs.Refusals.{keys_in}
 use Rattle.scanning.specs.Refusals.{Allowed, edition_line, stamp_line, key_line, value_line, count_line}
 use Rattle.scanning.specs.Refusals.{Upto, start, next}
 use Rattle.scanning.specs.declared.State.{State}
-use Rattle.scanning.specs.declared.Next.{Next}
+use Rattle.scanning.specs.declared.Fault.{Fault}
 use Rattle.scanning.proofs.Trip.{no_key}
 
 -- ---- what one line says
 
-abbrev pub Says : ℕ → State → List ℕ → Next → Type 0
-Says most st l (Next.On t) = Allowed st l t × (keys_in st ≤ most → keys_in t ≤ most)
-Says most st l Next.Many = (t : State) × Allowed st l t × (most < keys_in t)
-Says most st l Next.Bad = Unit {0}
+abbrev pub Says : ℕ → State → List ℕ → Result State Fault → Type 0
+Says most st l (Ok t) = Allowed st l t × (keys_in st ≤ most → keys_in t ≤ most)
+Says most st l (Err Fault.Many) = (t : State) × Allowed st l t × (most < keys_in t)
+Says most st l (Err Fault.Bad) = Unit {0}
 
 edition_says : (most : ℕ) (l : List ℕ) → Says most State.Edition l (edition_of l)
 unfolding edition_of
 edition_says most l = by (field_in edition_name l) refl
   where
     one : (n : ℕ) (t : Bool) → eqb n 1 ≡ t → field_in edition_name l ≡ Some n →
-        Says most State.Edition l (cond t (Next.On State.Stamp) Next.Bad)
+        Says most State.Edition l (cond t (Ok State.Stamp) (Err Fault.Bad))
     one n true e f =
         let z : n ≡ 1 = eqb-true n 1 e in
         (edition_line refl (rw z at (field_only edition_name l n f).0) refl, λ h. omega arith)
     one n false e f = tt
 
     by : (a : Option ℕ) → field_in edition_name l ≡ a →
-        Says most State.Edition l (on_is a (λ n. cond (eqb n 1) (Next.On State.Stamp) Next.Bad) Next.Bad)
+        Says most State.Edition l (on_is a (λ n. cond (eqb n 1) (Ok State.Stamp) (Err Fault.Bad)) (Err Fault.Bad))
     by (Some n) f = one n (eqb n 1) refl f
     by None f = tt
 
@@ -54,7 +54,7 @@ unfolding stamp_of
 stamp_says most l = by (field_in stamp_name l) refl
   where
     by : (a : Option ℕ) → field_in stamp_name l ≡ a →
-        Says most State.Stamp l (on_is a (λ n. Next.On (State.Key n 0 0)) Next.Bad)
+        Says most State.Stamp l (on_is a (λ n. Ok (State.Key n 0 0)) (Err Fault.Bad))
     by (Some n) f =
         let is = field_only stamp_name l n f in (stamp_line n is.1 refl is.0 refl, λ h. omega arith)
     by None f = tt
@@ -65,7 +65,7 @@ unfolding value_of
 value_says most stamp count last l = by (field_in value_name l) refl
   where
     by : (a : Option ℕ) → field_in value_name l ≡ a →
-        Says most (State.Value stamp count last) l (on_is a (λ n. Next.On (State.Key stamp count last)) Next.Bad)
+        Says most (State.Value stamp count last) l (on_is a (λ n. Ok (State.Key stamp count last)) (Err Fault.Bad))
     by (Some n) f =
         let is = field_only value_name l n f in
         (value_line stamp count last n is.1 refl is.0 refl, λ h. h)
@@ -77,7 +77,7 @@ unfolding count_of
 count_says most stamp count last l = by (field_in count_name l) refl
   where
     one : (n : ℕ) (t : Bool) → eqb n count ≡ t → field_in count_name l ≡ Some n →
-        Says most (State.Key stamp count last) l (cond t (Next.On (State.Whole stamp count)) Next.Bad)
+        Says most (State.Key stamp count last) l (cond t (Ok (State.Whole stamp count)) (Err Fault.Bad))
     one n true e f =
         let z : n ≡ count = eqb-true n count e in
         let is = rw z at (field_only count_name l n f) in
@@ -86,7 +86,7 @@ count_says most stamp count last l = by (field_in count_name l) refl
 
     by : (a : Option ℕ) → field_in count_name l ≡ a →
         Says most (State.Key stamp count last) l
-        (on_is a (λ n. cond (eqb n count) (Next.On (State.Whole stamp count)) Next.Bad) Next.Bad)
+        (on_is a (λ n. cond (eqb n count) (Ok (State.Whole stamp count)) (Err Fault.Bad)) (Err Fault.Bad))
     by (Some n) f = one n (eqb n count) refl f
     by None f = tt
 
@@ -98,7 +98,7 @@ key_says most stamp count last l = by (field_in key_name l) refl
     one : (k : ℕ) (t u v : Bool) → leb k last ≡ t → leb largest k ≡ u → leb most count ≡ v →
         field_in key_name l ≡ Some k →
         Says most (State.Key stamp count last) l
-        (cond t Next.Bad (cond u Next.Bad (cond v Next.Many (Next.On (State.Value stamp (count + 1) k)))))
+        (cond t (Err Fault.Bad) (cond u (Err Fault.Bad) (cond v (Err Fault.Many) (Ok (State.Value stamp (count + 1) k)))))
     one k false false false e f g n = (
       key_line stamp count last k (leb-false k last e) (leb-false largest k f) refl
           (field_only key_name l k n).0 refl,
@@ -126,12 +126,12 @@ step_says most (State.Key stamp count last) l = key_says most stamp count last l
 step_says most (State.Value stamp count last) l = value_says most stamp count last l
 step_says most (State.Whole stamp count) l = tt
 
-pub says : (most : ℕ) (st : State) (l : List ℕ) (n : Next) → step_of most st l ≡ n → Says most st l n
+pub says : (most : ℕ) (st : State) (l : List ℕ) (n : Result State Fault) → step_of most st l ≡ n → Says most st l n
 says most st l n e = rw e at (step_says most st l)
 
 -- and an allowed line is taken, or is one too many
 pub allowed_on : (most : ℕ) (st t : State) (l : List ℕ) → Allowed st l t → keys_in t ≤ most →
-    step_of most st l ≡ Next.On t
+    step_of most st l ≡ Ok t
 unfolding edition_of stamp_of value_of count_of key_of keyed
 allowed_on most st t l (edition_line a b c) few = rw (a, b, c, field_back edition_name 1 (omega arith))
 allowed_on most st t l (stamp_line n fits a b c) few = rw (a, b, c, field_back stamp_name n fits)
@@ -144,7 +144,7 @@ allowed_on most st t l (count_line stamp count last fits a b c) few =
     rw (a, b, c, no_key count, field_back count_name count fits, eq-eqb count count refl)
 
 pub allowed_many : (most : ℕ) (st t : State) (l : List ℕ) → Allowed st l t → keys_in st ≤ most → most < keys_in t →
-    step_of most st l ≡ Next.Many
+    step_of most st l ≡ Err Fault.Many
 unfolding key_of keyed
 allowed_many most st t l (edition_line a b c) few more = absurd (omega (arith, ap keys_in a, ap keys_in c))
 allowed_many most st t l (stamp_line n fits a b c) few more = absurd (omega (arith, ap keys_in a, ap keys_in c))
@@ -158,7 +158,7 @@ allowed_many most st t l (count_line stamp count last fits a b c) few more =
     absurd (omega (arith, ap keys_in a, ap keys_in c))
 
 pub not_bad : (most : ℕ) (st t : State) (l : List ℕ) → Allowed st l t → keys_in st ≤ most →
-    step_of most st l ≡ Next.Bad → ⊥
+    step_of most st l ≡ Err Fault.Bad → ⊥
 not_bad most st t l allowed few e = by (split most (keys_in t))
   where
     by : (most < keys_in t) ⊎ (keys_in t ≤ most) → ⊥

@@ -3,12 +3,13 @@
 use Prim.Native.Nat.{ℕ}
 use mathlib.Core.Path.{◌≡◌, refl}
 use mathlib.Core.List.{List, [], ◌∷◌, ◌++◌}
+use Rattle.std.specs.Prelude.{Err}
 use Rattle.text.specs.Text.{class_of, with_digit, grow, grows, number_in, digits_in, digits}
 use Rattle.text.specs.Text.{ends, lines_of, starts_with, field_in}
 use Rattle.listing.specs.Listing.{edition_name, stamp_name, key_name, value_name, count_name, key_room}
 use Rattle.listing.specs.Listing.{field_of, pairs, head_of, body_of, listing_of}
-use Rattle.scanning.specs.Reading.{edition_of, stamp_of, count_of, keyed, key_of, scan_of, check_of}
-use Rattle.scanning.specs.declared.Reading.{Reading}
+use Rattle.scanning.specs.Reading.{whole, edition_of, stamp_of, count_of, keyed, key_of, scan_of, check_of}
+use Rattle.scanning.specs.declared.Unread.{Unread}
 
 -- ---- lines, digit by digit
 
@@ -45,60 +46,60 @@ count_1 = count_name ++ (49 ∷ 10 ∷ [])
 -- ---- what is read
 
 -- P12
-pub empty_read : check_of key_room (edition_1 ++ (stamp_0 ++ count_0)) ≡ Reading.Whole 0 0
+pub empty_read : check_of key_room (edition_1 ++ (stamp_0 ++ count_0)) ≡ whole 0 0
 unfolding check_of scan_of edition_of stamp_of count_of key_of lines_of ends class_of field_in starts_with
     number_in grows grow with_digit
 empty_read = refl
 
-pub largest_read : check_of key_room (edition_1 ++ (stamp_largest ++ count_0)) ≡ Reading.Whole 4294967295 0
+pub largest_read : check_of key_room (edition_1 ++ (stamp_largest ++ count_0)) ≡ whole 4294967295 0
 unfolding check_of scan_of edition_of stamp_of count_of key_of lines_of ends class_of field_in starts_with
     number_in grows grow with_digit
 largest_read = refl
 
 -- ---- what is refused
 
-pub empty_file : check_of key_room [] ≡ Reading.BadListing 0
+pub empty_file : check_of key_room [] ≡ Err (Unread.BadListing 0)
 unfolding check_of scan_of lines_of
 empty_file = refl
 
-pub other_edition : check_of key_room (edition_2 ++ (stamp_0 ++ count_0)) ≡ Reading.BadListing 0
+pub other_edition : check_of key_room (edition_2 ++ (stamp_0 ++ count_0)) ≡ Err (Unread.BadListing 0)
 unfolding check_of scan_of edition_of lines_of ends class_of field_in starts_with number_in grows grow with_digit
 other_edition = refl
 
-pub leading_zero : check_of key_room (edition_1 ++ (stamp_00 ++ count_0)) ≡ Reading.BadListing 10
+pub leading_zero : check_of key_room (edition_1 ++ (stamp_00 ++ count_0)) ≡ Err (Unread.BadListing 10)
 unfolding check_of scan_of edition_of stamp_of lines_of ends class_of field_in starts_with number_in
     grows grow with_digit
 leading_zero = refl
 
-pub too_large : check_of key_room (edition_1 ++ (stamp_larger ++ count_0)) ≡ Reading.BadListing 10
+pub too_large : check_of key_room (edition_1 ++ (stamp_larger ++ count_0)) ≡ Err (Unread.BadListing 10)
 unfolding check_of scan_of edition_of stamp_of lines_of ends class_of field_in starts_with number_in
     grows grow with_digit
 too_large = refl
 
 -- a last line without byte 10 is refused at its own start
-pub unended : check_of key_room (edition_1 ++ (stamp_0 ++ (count_name ++ (48 ∷ [])))) ≡ Reading.BadListing 18
+pub unended : check_of key_room (edition_1 ++ (stamp_0 ++ (count_name ++ (48 ∷ [])))) ≡ Err (Unread.BadListing 18)
 unfolding check_of scan_of edition_of stamp_of lines_of ends class_of field_in starts_with number_in
     grows grow with_digit
 unended = refl
 
 -- where the input ends too early the offset is its length
-pub stops_early : check_of key_room (edition_1 ++ stamp_0) ≡ Reading.BadListing 18
+pub stops_early : check_of key_room (edition_1 ++ stamp_0) ≡ Err (Unread.BadListing 18)
 unfolding check_of scan_of edition_of stamp_of lines_of ends class_of field_in starts_with number_in
     grows grow with_digit
 stops_early = refl
 
 -- nothing follows count
-pub more_after : check_of key_room (edition_1 ++ (stamp_0 ++ (count_0 ++ (10 ∷ [])))) ≡ Reading.BadListing 26
+pub more_after : check_of key_room (edition_1 ++ (stamp_0 ++ (count_0 ++ (10 ∷ [])))) ≡ Err (Unread.BadListing 26)
 unfolding check_of scan_of edition_of stamp_of count_of key_of lines_of ends class_of field_in starts_with
     number_in grows grow with_digit
 more_after = refl
 
-pub wrong_count : check_of key_room (edition_1 ++ (stamp_0 ++ count_1)) ≡ Reading.BadListing 18
+pub wrong_count : check_of key_room (edition_1 ++ (stamp_0 ++ count_1)) ≡ Err (Unread.BadListing 18)
 unfolding check_of scan_of edition_of stamp_of count_of key_of lines_of ends class_of field_in starts_with
     number_in grows grow with_digit
 wrong_count = refl
 
-pub key_zero : check_of key_room (edition_1 ++ (stamp_0 ++ (key_0 ++ (value_0 ++ count_1)))) ≡ Reading.BadListing 18
+pub key_zero : check_of key_room (edition_1 ++ (stamp_0 ++ (key_0 ++ (value_0 ++ count_1)))) ≡ Err (Unread.BadListing 18)
 unfolding check_of scan_of edition_of stamp_of key_of keyed lines_of ends class_of field_in starts_with
     number_in grows grow with_digit
 key_zero = refl

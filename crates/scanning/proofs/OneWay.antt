@@ -9,6 +9,7 @@ use mathlib.Core.Logic.{◌↔◌}
 use native.Mathlib.Omega.{arith}
 use lib.ListN.{length, take, drop, length-append, length-drop}
 use lib.Seq.{take-add, take-append-add, take_all}
+use Rattle.std.specs.Prelude.{Result}
 use Rattle.text.specs.Text.{largest, digits, lines_of}
 use Rattle.text.proofs.Basics.{impossible}
 use Rattle.text.proofs.OneWay.{over_only}
@@ -17,11 +18,12 @@ use Rattle.listing.specs.Listing.{head_of, body_of, listing_of, rising, key_room
 use Rattle.listing.specs.Refusals.{Fit}
 use Rattle.listing.proofs.Length.{length_small}
 use Rattle.listing.proofs.Pairs.{good_is, good_rise, good_fit, rising_cons, rising_on}
-use Rattle.scanning.specs.Reading.{ended_of, check_of, numbers_in}
-use Rattle.scanning.specs.Refusals.{IsListing, Upto, start, next}
+use Rattle.scanning.specs.Reading.{whole, ended_of, check_of, numbers_in}
+use Rattle.scanning.specs.Refusals.{values_of, IsListing, Upto, start, next}
 use Rattle.scanning.specs.Refusals.{Allowed, edition_line, stamp_line, key_line, value_line, count_line}
 use Rattle.scanning.specs.declared.State.{State}
-use Rattle.scanning.specs.declared.Reading.{Reading}
+use Rattle.scanning.specs.declared.Whole.{Whole}
+use Rattle.scanning.specs.declared.Unread.{Unread}
 use Rattle.scanning.proofs.Allowed.{upto_few}
 use Rattle.scanning.proofs.Refusals.{Last, ended_at, torn_at, bad_at, many_at, last_of_lem}
 use Rattle.scanning.proofs.Trip.{check_back, keys_back, values_back}
@@ -192,20 +194,23 @@ shut_listing most stamp count s few shut =
       values_fit = f.values_fit;
     }
 
-ended_whole : (p stamp count : ℕ) (st : State) → ended_of p st ≡ Reading.Whole stamp count →
+ended_whole : (p stamp count : ℕ) (st : State) → ended_of p st ≡ whole stamp count →
     st ≡ State.Whole stamp count
 ended_whole p stamp count State.Edition h = impossible (cc)
 ended_whole p stamp count State.Stamp h = impossible (cc)
 ended_whole p stamp count (State.Key a b c) h = impossible (cc)
 ended_whole p stamp count (State.Value a b c) h = impossible (cc)
-ended_whole p stamp count (State.Whole a b) h = let y : a ≡ stamp = cc in let z : b ≡ count = cc in rw (y, z)
+ended_whole p stamp count (State.Whole a b) h =
+    let v : a ∷ b ∷ [] ≡ stamp ∷ count ∷ [] = ap values_of h in
+    let y : a ≡ stamp = cc in
+    let z : b ≡ count = cc in rw (y, z)
 
 -- reading takes a listing only as writing writes it
-pub check_only : (most : ℕ) (s : List ℕ) (stamp count : ℕ) → check_of most s ≡ Reading.Whole stamp count →
+pub check_only : (most : ℕ) (s : List ℕ) (stamp count : ℕ) → check_of most s ≡ whole stamp count →
     IsListing most s stamp count
 check_only most s stamp count = by (check_of most s) (last_of_lem most s)
   where
-    by : (r : Reading) → Last most s r → r ≡ Reading.Whole stamp count → IsListing most s stamp count
+    by : (r : Result Whole Unread) → Last most s r → r ≡ whole stamp count → IsListing most s stamp count
     by r (ended_at p st u e f) h =
         let z : st ≡ State.Whole stamp count = ended_whole p stamp count st (sym f ∙ h) in
         let gone = ap length (over_only (drop p s) e) in
@@ -218,16 +223,16 @@ check_only most s stamp count = by (check_of most s) (last_of_lem most s)
 
 -- the bytes that reading takes are the listings, and no others
 pub whole_is : (most : ℕ) (s : List ℕ) (stamp count : ℕ) → most ≤ largest →
-    (check_of most s ≡ Reading.Whole stamp count) ↔ IsListing most s stamp count
+    (check_of most s ≡ whole stamp count) ↔ IsListing most s stamp count
 whole_is most s stamp count small = (check_only most s stamp count, back)
   where
-    back : IsListing most s stamp count → check_of most s ≡ Reading.Whole stamp count
+    back : IsListing most s stamp count → check_of most s ≡ whole stamp count
     back is =
         rw (is.bytes, is.counted)
         (check_back most stamp is.ks is.vs small is.stamp_fits is.values_fit is.good)
 
 -- and have at most 16,357 bytes
-pub whole_small : (s : List ℕ) (stamp count : ℕ) → check_of key_room s ≡ Reading.Whole stamp count → length s ≤ 16357
+pub whole_small : (s : List ℕ) (stamp count : ℕ) → check_of key_room s ≡ whole stamp count → length s ≤ 16357
 whole_small s stamp count h = by (check_only key_room s stamp count h)
   where
     by : IsListing key_room s stamp count → length s ≤ 16357
@@ -241,7 +246,7 @@ pub record Handed (most : ℕ) (s : List ℕ) (count : ℕ) : Type 0 where
   pub values : length (numbers_in value_name (lines_of s)) ≡ count
   pub few : count ≤ most
 
-pub handed : (most : ℕ) (s : List ℕ) (stamp count : ℕ) → check_of most s ≡ Reading.Whole stamp count →
+pub handed : (most : ℕ) (s : List ℕ) (stamp count : ℕ) → check_of most s ≡ whole stamp count →
     Handed most s count
 handed most s stamp count h = by (check_only most s stamp count h)
   where

@@ -7,6 +7,7 @@ use mathlib.Core.List.{List, [], ◌∷◌}
 use mathlib.Core.Logic.{◌↔◌}
 use native.Mathlib.Omega.{arith}
 use lib.ListN.{length, drop}
+use Rattle.std.specs.Prelude.{Result, Ok, Err}
 use Rattle.text.specs.Text.{Lines, over, torn, line, lines_of}
 use Rattle.text.proofs.Basics.{impossible}
 use Rattle.text.proofs.OneWay.{over_only, line_only}
@@ -14,21 +15,22 @@ use Rattle.scanning.specs.Reading.{on_next, step_of, ended_of, scan_of, check_of
 use Rattle.scanning.specs.Refusals.{number_of, values_of, keys_in}
 use Rattle.scanning.specs.Refusals.{Upto, start, next, Stands, a_line, the_end, FirstBad, OneMore}
 use Rattle.scanning.specs.declared.State.{State}
-use Rattle.scanning.specs.declared.Next.{Next}
-use Rattle.scanning.specs.declared.Reading.{Reading}
+use Rattle.scanning.specs.declared.Fault.{Fault}
+use Rattle.scanning.specs.declared.Whole.{Whole}
+use Rattle.scanning.specs.declared.Unread.{Unread}
 use Rattle.scanning.proofs.Allowed.{says, not_bad, allowed_many, allowed_line}
 use Rattle.scanning.proofs.Allowed.{line_rest, upto_few, upto_within, upto_scan}
 
 -- ---- where reading stops
 
-pub data Last (most : ℕ) (s : List ℕ) (r : Reading) : Type 0 where
+pub data Last (most : ℕ) (s : List ℕ) (r : Result Whole Unread) : Type 0 where
   ended_at : (p : ℕ) (st : State) → Upto most s p st → lines_of (drop p s) ≡ over → r ≡ ended_of p st → Last most s r
-  torn_at : (p : ℕ) (st : State) → Upto most s p st → lines_of (drop p s) ≡ torn → r ≡ Reading.BadListing p →
+  torn_at : (p : ℕ) (st : State) → Upto most s p st → lines_of (drop p s) ≡ torn → r ≡ Err (Unread.BadListing p) →
       Last most s r
   bad_at : (p : ℕ) (st : State) (l : List ℕ) (ls : Lines) → Upto most s p st → lines_of (drop p s) ≡ line l ls →
-      step_of most st l ≡ Next.Bad → r ≡ Reading.BadListing p → Last most s r
+      step_of most st l ≡ Err Fault.Bad → r ≡ Err (Unread.BadListing p) → Last most s r
   many_at : (p : ℕ) (st : State) (l : List ℕ) (ls : Lines) → Upto most s p st → lines_of (drop p s) ≡ line l ls →
-      step_of most st l ≡ Next.Many → r ≡ Reading.TooMany → Last most s r
+      step_of most st l ≡ Err Fault.Many → r ≡ Err Unread.TooMany → Last most s r
 
 last_from : (most : ℕ) (s : List ℕ) (ls : Lines) (p : ℕ) (st : State) → lines_of (drop p s) ≡ ls →
     Upto most s p st → Last most s (scan_of most p st ls)
@@ -38,16 +40,16 @@ last_from most s torn p st e u = torn_at p st u e refl
 last_from most s (line l ls) p st e u =
     by (step_of most st l) refl (λ q t f v. last_from most s ls q t f v)
   where
-    by : (n : Next) → step_of most st l ≡ n →
+    by : (n : Result State Fault) → step_of most st l ≡ n →
         ((q : ℕ) (t : State) → lines_of (drop q s) ≡ ls → Upto most s q t → Last most s (scan_of most q t ls)) →
         Last most s (on_next p n (λ t. scan_of most (p + length l + 1) t ls))
-    by (Next.On t) f ih =
-        let told = says most st l (Next.On t) f in
+    by (Ok t) f ih =
+        let told = says most st l (Ok t) f in
         let is = line_only (drop p s) l ls e in
         ih (p + length l + 1) t (line_rest s l ls p e)
         (next l (drop (suc (length l)) (drop p s)) t u is.0 told.0 (told.1 (upto_few u)))
-    by Next.Bad f ih = bad_at p st l ls u e f refl
-    by Next.Many f ih = many_at p st l ls u e f refl
+    by (Err Fault.Bad) f ih = bad_at p st l ls u e f refl
+    by (Err Fault.Many) f ih = many_at p st l ls u e f refl
 
 pub last_of_lem : (most : ℕ) (s : List ℕ) → Last most s (check_of most s)
 unfolding check_of
@@ -68,7 +70,7 @@ module _ (s : List ℕ) (p : ℕ) (st : State) where
   torn_not e (the_end stamp count f g) = let h : lines_of (drop p s) ≡ over = rw f in impossible (cc)
 
   line_not : (most : ℕ) (l : List ℕ) (ls : Lines) → keys_in st ≤ most → lines_of (drop p s) ≡ line l ls →
-      step_of most st l ≡ Next.Bad → Stands s p st → ⊥
+      step_of most st l ≡ Err Fault.Bad → Stands s p st → ⊥
   unfolding lines_of
   line_not most l ls few e b (a_line m rest t f a) =
       let h = allowed_line st t m rest (drop p s) a f in
@@ -81,7 +83,7 @@ first_at : (most : ℕ) (s : List ℕ) (p q : ℕ) (st : State) → Upto most s 
 first_at most s p q st u not z =
     record { due = st; before = rw z u; not_allowed = rw z not; within = rw z (upto_within u) }
 
-ended_bad : (p q : ℕ) (st : State) → ended_of p st ≡ Reading.BadListing q →
+ended_bad : (p q : ℕ) (st : State) → ended_of p st ≡ Err (Unread.BadListing q) →
     (q ≡ p) × ((stamp count : ℕ) → st ≡ State.Whole stamp count → ⊥)
 ended_bad p q State.Edition h = (cc, λ stamp count e. impossible (cc))
 ended_bad p q State.Stamp h = (cc, λ stamp count e. impossible (cc))
@@ -90,14 +92,14 @@ ended_bad p q (State.Value stamp count last) h = (cc, λ a b e. impossible (cc))
 ended_bad p q (State.Whole stamp count) h = impossible (cc)
 
 ended_early : (p : ℕ) (st : State) → ((stamp count : ℕ) → st ≡ State.Whole stamp count → ⊥) →
-    ended_of p st ≡ Reading.BadListing p
+    ended_of p st ≡ Err (Unread.BadListing p)
 ended_early p State.Edition short = refl
 ended_early p State.Stamp short = refl
 ended_early p (State.Key stamp count last) short = refl
 ended_early p (State.Value stamp count last) short = refl
 ended_early p (State.Whole stamp count) short = absurd (short stamp count refl)
 
-bad_first : (most : ℕ) (s : List ℕ) (q : ℕ) (r : Reading) → Last most s r → r ≡ Reading.BadListing q →
+bad_first : (most : ℕ) (s : List ℕ) (q : ℕ) (r : Result Whole Unread) → Last most s r → r ≡ Err (Unread.BadListing q) →
     FirstBad most s q
 bad_first most s q r (ended_at p st u e f) h =
     let is = ended_bad p q st (sym f ∙ h) in first_at most s p q st u (end_not s p st e is.1) is.0
@@ -108,44 +110,44 @@ bad_first most s q r (many_at p st l ls u e b f) h = impossible (cc)
 
 -- where nothing that is allowed stands, reading stops
 not_scan : (most : ℕ) (s : List ℕ) (p : ℕ) (st : State) → (Stands s p st → ⊥) → (ls : Lines) →
-    lines_of (drop p s) ≡ ls → scan_of most p st ls ≡ Reading.BadListing p
+    lines_of (drop p s) ≡ ls → scan_of most p st ls ≡ Err (Unread.BadListing p)
 unfolding scan_of
 not_scan most s p st not over e =
     ended_early p st (λ stamp count g. not (the_end stamp count (over_only (drop p s) e) g))
 not_scan most s p st not torn e = refl
 not_scan most s p st not (line l ls) e = by (step_of most st l) refl
   where
-    by : (n : Next) → step_of most st l ≡ n →
-        on_next p n (λ t. scan_of most (p + length l + 1) t ls) ≡ Reading.BadListing p
-    by (Next.On t) f =
-        absurd (not (a_line l _ t (line_only (drop p s) l ls e).0 (says most st l (Next.On t) f).0))
-    by Next.Bad f = refl
-    by Next.Many f =
-        let told = says most st l Next.Many f in
+    by : (n : Result State Fault) → step_of most st l ≡ n →
+        on_next p n (λ t. scan_of most (p + length l + 1) t ls) ≡ Err (Unread.BadListing p)
+    by (Ok t) f =
+        absurd (not (a_line l _ t (line_only (drop p s) l ls e).0 (says most st l (Ok t) f).0))
+    by (Err Fault.Bad) f = refl
+    by (Err Fault.Many) f =
+        let told = says most st l (Err Fault.Many) f in
         absurd (not (a_line l _ told.0 (line_only (drop p s) l ls e).0 told.1))
 
 -- 9, and its offset
-pub bad_listing : (most : ℕ) (s : List ℕ) (p : ℕ) → (check_of most s ≡ Reading.BadListing p) ↔ FirstBad most s p
+pub bad_listing : (most : ℕ) (s : List ℕ) (p : ℕ) → (check_of most s ≡ Err (Unread.BadListing p)) ↔ FirstBad most s p
 bad_listing most s p = (λ h. bad_first most s p (check_of most s) (last_of_lem most s) h, back)
   where
-    back : FirstBad most s p → check_of most s ≡ Reading.BadListing p
+    back : FirstBad most s p → check_of most s ≡ Err (Unread.BadListing p)
     back b = upto_scan b.before ∙ not_scan most s p b.due b.not_allowed (lines_of (drop p s)) refl
 
 -- ---- 10
 
-ended_not_many : (p : ℕ) (st : State) → ended_of p st ≡ Reading.TooMany → ⊥
+ended_not_many : (p : ℕ) (st : State) → ended_of p st ≡ Err Unread.TooMany → ⊥
 ended_not_many p State.Edition h = impossible (cc)
 ended_not_many p State.Stamp h = impossible (cc)
 ended_not_many p (State.Key stamp count last) h = impossible (cc)
 ended_not_many p (State.Value stamp count last) h = impossible (cc)
 ended_not_many p (State.Whole stamp count) h = impossible (cc)
 
-many_more : (most : ℕ) (s : List ℕ) (r : Reading) → Last most s r → r ≡ Reading.TooMany → OneMore most s
+many_more : (most : ℕ) (s : List ℕ) (r : Result Whole Unread) → Last most s r → r ≡ Err Unread.TooMany → OneMore most s
 many_more most s r (ended_at p st u e f) h = absurd (ended_not_many p st (sym f ∙ h))
 many_more most s r (torn_at p st u e f) h = impossible (cc)
 many_more most s r (bad_at p st l ls u e b f) h = impossible (cc)
 many_more most s r (many_at p st l ls u e b f) h =
-    let told = says most st l Next.Many b in
+    let told = says most st l (Err Fault.Many) b in
     record {
       place = p;
       due = st;
@@ -158,15 +160,15 @@ many_more most s r (many_at p st l ls u e b f) h =
       more = told.2;
     }
 
-pub too_many : (most : ℕ) (s : List ℕ) → (check_of most s ≡ Reading.TooMany) ↔ OneMore most s
+pub too_many : (most : ℕ) (s : List ℕ) → (check_of most s ≡ Err Unread.TooMany) ↔ OneMore most s
 unfolding scan_of
 too_many most s = (λ h. many_more most s (check_of most s) (last_of_lem most s) h, back)
   where
     scan : (ls : Lines) (p : ℕ) (st : State) (l : List ℕ) (r : Lines) → ls ≡ line l r →
-        step_of most st l ≡ Next.Many → scan_of most p st ls ≡ Reading.TooMany
+        step_of most st l ≡ Err Fault.Many → scan_of most p st ls ≡ Err Unread.TooMany
     scan ls p st l r e f = rw (e, f)
 
-    back : OneMore most s → check_of most s ≡ Reading.TooMany
+    back : OneMore most s → check_of most s ≡ Err Unread.TooMany
     back o =
         upto_scan o.before ∙
         scan (lines_of (drop o.place s)) o.place o.due o.key (lines_of o.rest)
@@ -175,29 +177,28 @@ too_many most s = (λ h. many_more most s (check_of most s) (last_of_lem most s)
 
 -- ---- by document 01's numbers
 
-nine : (r : Reading) (p : ℕ) → ((number_of r ≡ 9) × (values_of r ≡ p ∷ [])) ↔ (r ≡ Reading.BadListing p)
+nine : (r : Result Whole Unread) (p : ℕ) → ((number_of r ≡ 9) × (values_of r ≡ p ∷ [])) ↔ (r ≡ Err (Unread.BadListing p))
 nine r p = (to r, λ e. (rw e, rw e))
   where
-    to : (r : Reading) → (number_of r ≡ 9) × (values_of r ≡ p ∷ []) → r ≡ Reading.BadListing p
-    to (Reading.Whole stamp count) h = absurd (omega (arith, h.0))
-    to (Reading.BadListing q) h = let z : q ∷ [] ≡ p ∷ [] = h.1 in cc
-    to Reading.TooMany h = absurd (omega (arith, h.0))
+    to : (r : Result Whole Unread) → (number_of r ≡ 9) × (values_of r ≡ p ∷ []) → r ≡ Err (Unread.BadListing p)
+    to (Ok w) h = absurd (omega (arith, h.0))
+    to (Err (Unread.BadListing q)) h = let z : q ∷ [] ≡ p ∷ [] = h.1 in cc
+    to (Err Unread.TooMany) h = absurd (omega (arith, h.0))
 
-ten : (r : Reading) → (number_of r ≡ 10) ↔ (r ≡ Reading.TooMany)
+ten : (r : Result Whole Unread) → (number_of r ≡ 10) ↔ (r ≡ Err Unread.TooMany)
 ten r = (to r, λ e. rw e)
   where
-    to : (r : Reading) → number_of r ≡ 10 → r ≡ Reading.TooMany
-    to (Reading.Whole stamp count) h = absurd (omega (arith, h))
-    to (Reading.BadListing q) h = absurd (omega (arith, h))
-    to Reading.TooMany h = refl
+    to : (r : Result Whole Unread) → number_of r ≡ 10 → r ≡ Err Unread.TooMany
+    to (Ok w) h = absurd (omega (arith, h))
+    to (Err (Unread.BadListing q)) h = absurd (omega (arith, h))
+    to (Err Unread.TooMany) h = refl
 
 -- ---- for an outcome that the contract of `read` allows
 
-module _ (most : ℕ) (s ks vs ks' vs' : List ℕ) (r : Reading) (told : done ks' vs' r ≡ read_of most s ks vs) where
-  by_answer : (a : Reading) → done ks' vs' r ≡ on_reading s ks vs a → r ≡ a
-  by_answer (Reading.Whole stamp count) h = cc
-  by_answer (Reading.BadListing p) h = cc
-  by_answer Reading.TooMany h = cc
+module _ (most : ℕ) (s ks vs ks' vs' : List ℕ) (r : Result Whole Unread) (told : done ks' vs' r ≡ read_of most s ks vs) where
+  by_answer : (a : Result Whole Unread) → done ks' vs' r ≡ on_reading s ks vs a → r ≡ a
+  by_answer (Ok w) h = cc
+  by_answer (Err e) h = cc
 
   pub read_checks : r ≡ check_of most s
   unfolding read_of
@@ -222,8 +223,7 @@ module _ (most : ℕ) (s ks vs ks' vs' : List ℕ) (r : Reading) (told : done ks
   unfolding read_of
   refused_keeps = by (check_of most s) told
     where
-      by : (a : Reading) → done ks' vs' r ≡ on_reading s ks vs a → (number_of r ≡ 0 → ⊥) → (ks' ≡ ks) × (vs' ≡ vs)
-      by (Reading.Whole stamp count) h no_refusal =
-          let e : r ≡ Reading.Whole stamp count = cc in absurd (no_refusal (rw e))
-      by (Reading.BadListing p) h refusal = (cc, cc)
-      by Reading.TooMany h refusal = (cc, cc)
+      by : (a : Result Whole Unread) → done ks' vs' r ≡ on_reading s ks vs a → (number_of r ≡ 0 → ⊥) → (ks' ≡ ks) × (vs' ≡ vs)
+      by (Ok w) h no_refusal =
+          let e : r ≡ Ok w = cc in absurd (no_refusal (rw e))
+      by (Err e) h refusal = (cc, cc)

@@ -12,20 +12,18 @@ use lib.Seq.{sets}
 use borrow.Author.Tests.{lt-leb, eq-eqb}
 use Rattle.std.specs.Prelude.{Ok}
 use Rattle.text.specs.Text.{largest, digits, Lines, over, line, lines_of, ends, class_of, field_in, starts_with}
-use Rattle.std.specs.Prelude.{Option, Some, None}
+use Rattle.std.specs.Prelude.{None}
 use Rattle.text.proofs.Back.{plain, plain_append, plain_digits, lines_plain, field_back}
 use Rattle.text.proofs.Write.{read_back}
 use Rattle.listing.specs.Listing.{edition_name, stamp_name, key_name, value_name, count_name}
 use Rattle.listing.specs.Listing.{field_of, pair_of, pairs, head_of, body_of, listing_of, rising, write_of}
 use Rattle.listing.specs.Listing.{done as written_done}
 use Rattle.listing.specs.Refusals.{Good, Fit}
-use Rattle.listing.specs.declared.Unwritten.{Unwritten}
 use Rattle.listing.proofs.Pairs.{good_is, good_counts, good_fit, rising_on}
 use Rattle.listing.proofs.Refusals.{written}
-use Rattle.scanning.specs.Reading.{edition_of, stamp_of, value_of, count_of, keyed, key_of, scan_of, check_of}
+use Rattle.scanning.specs.Reading.{whole, edition_of, stamp_of, value_of, count_of, keyed, key_of, scan_of, check_of}
 use Rattle.scanning.specs.Reading.{numbers_in, done, read_of}
 use Rattle.scanning.specs.declared.State.{State}
-use Rattle.scanning.specs.declared.Reading.{Reading}
 
 -- ---- the lines of a listing
 
@@ -80,7 +78,7 @@ unfolding field_in starts_with
 no_key n = refl
 
 scan_count : (most p stamp count last : ℕ) → count ≤ largest →
-    scan_of most p (State.Key stamp count last) (line (count_name ++ digits count) over) ≡ Reading.Whole stamp count
+    scan_of most p (State.Key stamp count last) (line (count_name ++ digits count) over) ≡ whole stamp count
 unfolding scan_of key_of count_of
 scan_count most p stamp count last h =
     rw (no_key count, field_back count_name count h, eq-eqb count count refl)
@@ -100,7 +98,7 @@ scan_pairs : (most : ℕ) (ks vs : List ℕ) (p stamp count last : ℕ) → leng
     rising last ks ≡ true → Fit vs → count + length ks ≤ most → most ≤ largest →
     scan_of most p (State.Key stamp count last)
     (pair_lines ks vs (line (count_name ++ digits (count + length ks)) over)) ≡
-    Reading.Whole stamp (count + length ks)
+    whole stamp (count + length ks)
 unfolding pair_lines
 scan_pairs most [] vs p stamp count last same up fv few small =
     let e : count + 0 ≡ count = omega arith in rw e (scan_count most p stamp count last (omega arith))
@@ -114,7 +112,7 @@ scan_pairs most (k ∷ ks) (v ∷ vs) p stamp count last same up fv few small =
 
 module _ (most stamp : ℕ) (ks vs : List ℕ) (small : most ≤ largest) (fs : stamp ≤ largest) (fv : Fit vs)
     (good : Good most ks vs) where
-  pub check_back : check_of most (listing_of stamp ks vs) ≡ Reading.Whole stamp (length ks)
+  pub check_back : check_of most (listing_of stamp ks vs) ≡ whole stamp (length ks)
   unfolding check_of scan_of edition_of stamp_of
   check_back =
       let counts = good_counts most ks vs ((good_is most ks vs).1 good) in
@@ -157,7 +155,7 @@ module _ (most stamp : ℕ) (ks vs : List ℕ) (small : most ≤ largest) (fs : 
   -- reading a listing gives its stamp, keys and values, and their number
   pub read_listing : (ko vo : List ℕ) → Good most ks vs →
       read_of most (listing_of stamp ks vs) ko vo ≡
-      done (sets ko 0 ks) (sets vo 0 vs) (Reading.Whole stamp (length ks))
+      done (sets ko 0 ks) (sets vo 0 vs) (whole stamp (length ks))
   unfolding read_of
   read_listing ko vo good =
       rw (check_back most stamp ks vs small fs fv good)
@@ -165,7 +163,7 @@ module _ (most stamp : ℕ) (ks vs : List ℕ) (small : most ≤ largest) (fs : 
 
   -- and so what writing wrote
   pub round_trip : (out o ko vo : List ℕ) (n : ℕ) → written_done o (Ok n) ≡ write_of most stamp ks vs out →
-      read_of most (take n o) ko vo ≡ done (sets ko 0 ks) (sets vo 0 vs) (Reading.Whole stamp (length ks))
+      read_of most (take n o) ko vo ≡ done (sets ko 0 ks) (sets vo 0 vs) (whole stamp (length ks))
   round_trip out o ko vo n told =
       let all = written most stamp ks vs out o (Ok n) told n refl in
       rw all.first (read_listing ko vo all.good)

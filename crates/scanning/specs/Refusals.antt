@@ -1,24 +1,25 @@
 -- Document 01's numbers for the answers of reading, and what its table says of 9 and 10, on bytes alone.
 -- In order: numbers and values; a line that is allowed; lines up to an offset; 9; 10; a whole listing.
 -- Not here: how reading finds them (Reading). Assumes nothing.
-use Rattle.std.specs.Prelude.{ℕ, ◌+◌, ◌≤◌, ◌<◌, ◌≡◌, List, [], ◌∷◌, ◌++◌, length, drop}
+use Rattle.std.specs.Prelude.{ℕ, ◌+◌, ◌≤◌, ◌<◌, ◌≡◌, List, [], ◌∷◌, ◌++◌, length, drop, Result, Ok, Err}
 use Rattle.text.specs.Text.{largest, digits}
 use Rattle.listing.specs.Listing.{edition_name, stamp_name, key_name, value_name, count_name, listing_of}
 use Rattle.listing.specs.Refusals.{Good, Fit}
 use Rattle.scanning.specs.declared.State.{State}
-use Rattle.scanning.specs.declared.Reading.{Reading}
+use Rattle.scanning.specs.declared.Whole.{Whole}
+use Rattle.scanning.specs.declared.Unread.{Unread}
 
 -- the refusal number, and 0 for what is no refusal
-abbrev pub number_of : Reading → ℕ
-number_of (Reading.Whole stamp count) = 0
-number_of (Reading.BadListing p) = 9
-number_of Reading.TooMany = 10
+abbrev pub number_of : Result Whole Unread → ℕ
+number_of (Ok w) = 0
+number_of (Err (Unread.BadListing p)) = 9
+number_of (Err Unread.TooMany) = 10
 
 -- the numbers that the answer gives
-abbrev pub values_of : Reading → List ℕ
-values_of (Reading.Whole stamp count) = stamp ∷ count ∷ []
-values_of (Reading.BadListing p) = p ∷ []
-values_of Reading.TooMany = []
+abbrev pub values_of : Result Whole Unread → List ℕ
+values_of (Ok w) = w.stamp ∷ w.count ∷ []
+values_of (Err (Unread.BadListing p)) = p ∷ []
+values_of (Err Unread.TooMany) = []
 
 -- ---- a line (without its byte 10) that is allowed where `st` is to come, and what is to come after it
 

@@ -9,7 +9,7 @@ ghost use Rattle.std.specs.Prelude.{◌≡◌, ◌≤◌};
 ghost use Rattle.std.proofs.lemmas.List.Edits.{sets};
 ghost use Rattle.text.specs.Text.{lines_of, Puts};
 ghost use Rattle.scanning.specs.Reading.{edition_of, stamp_of, value_of, count_of, keyed, key_of, step_of};
-ghost use Rattle.scanning.specs.Reading.{ended_of, turn_of, check_of, one, numbers_in, done, read_of};
+ghost use Rattle.scanning.specs.Reading.{refused_at, line_at, ended_of, check_of, one, numbers_in, done, read_of};
 
 use text::Seen;
 
@@ -23,93 +23,89 @@ pub enum State {
     Whole { stamp: u32, count: u32 },
 }
 
-// What a line makes of that.
+// A whole listing's stamp, and how many keys it has.
 #[derive(Clone, Copy)]
-pub enum Next {
-    On(State),
-    Bad,
-    Many,
+pub struct Whole {
+    pub stamp: u32,
+    pub count: u32,
 }
 
-// The stamp and how many keys, or a refusal: 9 with its offset, or 10.
+// Why a listing is not read: 9 with the offset of a line, or 10.
 #[derive(Clone, Copy)]
-pub enum Reading {
-    Whole(u32, u32),
+pub enum Unread {
     BadListing(usize),
     TooMany,
 }
 
-// After one line: on with what is to come at a place, or the answer.
+// Why a line is not taken: it is not allowed there, or it is a key too many.
 #[derive(Clone, Copy)]
-pub enum Turn {
-    Go(State, usize),
-    Stop(Reading),
+pub enum Fault {
+    Bad,
+    Many,
 }
 
-fn edition_line(l: &[u8]) -> Next
+impl Fault {
+    fn at(self, place: usize) -> Unread
+        ensures { result ≡ refused_at place self }
+    {
+        match self {
+            Fault::Bad => Unread::BadListing(place),
+            Fault::Many => Unread::TooMany,
+        }
+    }
+}
+
+fn edition_line(l: &[u8]) -> Result<State, Fault>
     ensures { result ≡ edition_of l.now }
 {
     match text::field(l, b"edition=") {
-        Some(n) => {
-            if n == 1 {
-                return Next::On(State::Stamp);
-            }
-            Next::Bad
-        }
-        None => Next::Bad,
+        Some(1) => Ok(State::Stamp),
+        _ => Err(Fault::Bad),
     }
 }
 
-fn stamp_line(l: &[u8]) -> Next
+fn stamp_line(l: &[u8]) -> Result<State, Fault>
     ensures { result ≡ stamp_of l.now }
 {
     match text::field(l, b"stamp=") {
-        Some(n) => Next::On(State::Key {
-            stamp: n,
+        Some(stamp) => Ok(State::Key {
+            stamp,
             count: 0,
             last: 0,
         }),
-        None => Next::Bad,
+        None => Err(Fault::Bad),
     }
 }
 
-fn value_line(stamp: u32, count: u32, last: u32, l: &[u8]) -> Next
+fn value_line(stamp: u32, count: u32, last: u32, l: &[u8]) -> Result<State, Fault>
     ensures { result ≡ value_of stamp count last l.now }
 {
     match text::field(l, b"value=") {
-        Some(_) => Next::On(State::Key { stamp, count, last }),
-        None => Next::Bad,
+        Some(_) => Ok(State::Key { stamp, count, last }),
+        None => Err(Fault::Bad),
     }
 }
 
-fn count_line(stamp: u32, count: u32, l: &[u8]) -> Next
+fn count_line(stamp: u32, count: u32, l: &[u8]) -> Result<State, Fault>
     ensures { result ≡ count_of stamp count l.now }
 {
     match text::field(l, b"count=") {
-        Some(n) => {
-            if n == count {
-                return Next::On(State::Whole { stamp, count });
-            }
-            Next::Bad
-        }
-        None => Next::Bad,
+        Some(n) if n == count => Ok(State::Whole { stamp, count }),
+        _ => Err(Fault::Bad),
     }
 }
 
 // A key in bounds and above the last is one more, unless there are `most` already.
-fn key_read(most: u32, stamp: u32, count: u32, last: u32, k: u32) -> Next
+fn key_read(most: u32, stamp: u32, count: u32, last: u32, k: u32) -> Result<State, Fault>
     ensures { result ≡ keyed most stamp count last k }
 {
-    if k <= last {
-        return Next::Bad;
-    }
-    if 4294967295 <= k {
-        return Next::Bad;
+    if k <= last || 4294967295 <= k {
+        return Err(Fault::Bad);
     }
     if most <= count {
-        return Next::Many;
+        return Err(Fault::Many);
     }
-    Next::On(State::Value {
+    Ok(State::Value {
         stamp,
         count: count + 1,
         last: k,
@@ -117,7 +113,7 @@ fn key_read(most: u32, stamp: u32, count: u32, last: u32, k: u32) -> Next
 }
 
 // After a value, a key or the count.
-fn key_line(most: u32, stamp: u32, count: u32, last: u32, l: &[u8]) -> Next
+fn key_line(most: u32, stamp: u32, count: u32, last: u32, l: &[u8]) -> Result<State, Fault>
     ensures { result ≡ key_of most stamp count last l.now }
 {
     match text::field(l, b"key=") {
@@ -126,7 +122,7 @@ fn key_line(most: u32, stamp: u32, count: u32, last: u32, l: &[u8]) -> Next
     }
 }
 
-fn step(most: u32, st: State, l: &[u8]) -> Next
+fn step(most: u32, st: State, l: &[u8]) -> Result<State, Fault>
     ensures { result ≡ step_of most st l.now }
 {
     match st {
@@ -134,60 +130,40 @@ fn step(most: u32, st: State, l: &[u8]) -> Next
         State::Stamp => stamp_line(l),
         State::Key { stamp, count, last } => key_line(most, stamp, count, last, l),
         State::Value { stamp, count, last } => value_line(stamp, count, last, l),
-        State::Whole { stamp: _, count: _ } => Next::Bad,
+        State::Whole { .. } => Err(Fault::Bad),
     }
+}
+
+// One line, refused by its own offset.
+fn line_at(most: u32, place: usize, st: State, l: &[u8]) -> Result<State, Unread>
+    ensures { result ≡ line_at place (step_of most st l.now) }
+{
+    step(most, st, l).map_err(|e| e.at(place))
 }
 
 // The input ends here.
-fn ended(place: usize, st: State) -> Reading
+fn ended(place: usize, st: State) -> Result<Whole, Unread>
     ensures { result ≡ ended_of place st }
 {
     match st {
-        State::Edition => Reading::BadListing(place),
-        State::Stamp => Reading::BadListing(place),
-        State::Key {
-            stamp: _,
-            count: _,
-            last: _,
-        } => Reading::BadListing(place),
-        State::Value {
-            stamp: _,
-            count: _,
-            last: _,
-        } => Reading::BadListing(place),
-        State::Whole { stamp, count } => Reading::Whole(stamp, count),
-    }
-}
-
-// One line.
-fn line_turn(most: u32, input: &[u8], place: usize, st: State) -> Turn
-    ensures { result ≡ turn_of most input.now place st }
-{
-    match text::next_line(input, place) {
-        Seen::End => Turn::Stop(ended(place, st)),
-        Seen::Torn => Turn::Stop(Reading::BadListing(place)),
-        Seen::Line(e) => match step(most, st, &input[place..e]) {
-            Next::On(t) => Turn::Go(t, e + 1),
-            Next::Bad => Turn::Stop(Reading::BadListing(place)),
-            Next::Many => Turn::Stop(Reading::TooMany),
-        },
+        State::Whole { stamp, count } => Ok(Whole { stamp, count }),
+        _ => Err(Unread::BadListing(place)),
     }
 }
 
 // Whether the whole input is a listing of at most `most` keys.
-pub fn check(most: u32, input: &[u8]) -> Reading
+pub fn check(most: u32, input: &[u8]) -> Result<Whole, Unread>
     ensures { result ≡ check_of most input.now }
 {
     let mut st = State::Edition;
-    let mut place: usize = 0;
+    let mut place = 0;
     loop {
-        match line_turn(most, input, place, st) {
-            Turn::Go(t, p) => {
-                st = t;
-                place = p;
-            }
-            Turn::Stop(r) => {
-                return r;
+        match text::next_line(input, place) {
+            Seen::End => return ended(place, st),
+            Seen::Torn => return Err(Unread::BadListing(place)),
+            Seen::Line(e) => {
+                st = line_at(most, place, st, &input[place..e])?;
+                place = e + 1;
             }
         }
     }
@@ -202,7 +178,6 @@ fn keep(out: &mut [u32], i: usize, n: Option<u32>) -> usize
         Some(v) => {
             if i < out.len() {
                 out[i] = v;
-                return i + 1;
             }
             i + 1
         }
@@ -215,38 +190,22 @@ fn gather(input: &[u8], name: &[u8], out: &mut [u32])
     ensures { out.new ≡
         sets out.old 0 (numbers_in name.now (lines_of input.now)) }
 {
-    let mut place: usize = 0;
-    let mut i: usize = 0;
-    while place < input.len() {
-        match text::next_line(input, place) {
-            Seen::End => {
-                return;
-            }
-            Seen::Torn => {
-                return;
-            }
-            Seen::Line(e) => {
-                let n = text::field(&input[place..e], name);
-                i = keep(out, i, n);
-                place = e + 1;
-            }
-        }
+    let mut place = 0;
+    let mut i = 0;
+    while let Seen::Line(e) = text::next_line(input, place) {
+        i = keep(out, i, text::field(&input[place..e], name));
+        place = e + 1;
     }
 }
 
 // Reads a listing into keys and values, from the start of each; what has no room there is left out, and the answer
 // says how many there are. A refusal changes nothing.
-pub fn read(most: u32, input: &[u8], keys: &mut [u32], values: &mut [u32]) -> Reading
+pub fn read(most: u32, input: &[u8], keys: &mut [u32], values: &mut [u32]) -> Result<Whole, Unread>
     ensures { done keys.new values.new result ≡
         read_of most input.now keys.old values.old }
 {
-    match check(most, input) {
-        Reading::Whole(stamp, count) => {
-            gather(input, b"key=", keys);
-            gather(input, b"value=", values);
-            Reading::Whole(stamp, count)
-        }
-        Reading::BadListing(p) => Reading::BadListing(p),
-        Reading::TooMany => Reading::TooMany,
-    }
+    let whole = check(most, input)?;
+    gather(input, b"key=", keys);
+    gather(input, b"value=", values);
+    Ok(whole)
 }

@@ -1,0 +1,11 @@
+use Rattle.scanning.proofs.Order.{ways}
+use Rattle.scanning.proofs.edition_line.Goals as goal
+
+pub returns-in-Some-eq1 : goal.returns-in-Some-eq1
+returns-in-Some-eq1 c = search ways
+
+pub returns-in_default : goal.returns-in_default
+returns-in_default c = search ways
+
+pub returns-in_default-2 : goal.returns-in_default-2
+returns-in_default-2 c = search ways
