@@ -61,7 +61,8 @@ pub length_small : (stamp : ℕ) (ks vs : List ℕ) → stamp ≤ largest → Fi
 length_small stamp ks vs fs fv good = omega (arith, length_most key_room stamp ks vs fs fv good, most_bytes_lem)
 
 -- so an output of 16,357 bytes always has room
-pub always_room : (stamp : ℕ) (ks vs out o : List ℕ) (r : Result ℕ Unwritten) → done o r ≡ write_of key_room stamp ks vs out →
+pub always_room : (stamp : ℕ) (ks vs out o : List ℕ) (r : Result ℕ Unwritten) →
+    done o r ≡ write_of key_room stamp ks vs out →
     stamp ≤ largest → Fit vs → 16357 ≤ length out → number_of r ≡ 11 → ⊥
 always_room stamp ks vs out o r told fs fv room h =
     let short = (no_room key_room stamp ks vs out o r told).0 h in

@@ -81,7 +81,8 @@ pairs_over ks vs (inl e) = rw e
 pairs_over [] vs (inr e) = refl
 pairs_over (k ∷ ks) vs (inr e) = rw e
 
-pairs_on : (k v : ℕ) (ks vs ks' vs' : List ℕ) → ks ≡ k ∷ ks' → vs ≡ v ∷ vs' → pairs ks vs ≡ pair_of k v ++ pairs ks' vs'
+pairs_on : (k v : ℕ) (ks vs ks' vs' : List ℕ) → ks ≡ k ∷ ks' → vs ≡ v ∷ vs' →
+    pairs ks vs ≡ pair_of k v ++ pairs ks' vs'
 unfolding pairs
 pairs_on k v ks vs ks' vs' e h = rw (e, h)
 

@@ -48,7 +48,8 @@ way_of most stamp ks vs out o r =
 
 -- ---- each of them, for an outcome that the contract of `write` allows
 
-module _ (most stamp : ℕ) (ks vs out o : List ℕ) (r : Result ℕ Unwritten) (told : done o r ≡ write_of most stamp ks vs out) where
+module _ (most stamp : ℕ) (ks vs out o : List ℕ) (r : Result ℕ Unwritten)
+    (told : done o r ≡ write_of most stamp ks vs out) where
   abbrev bytes : List ℕ
   bytes = listing_of stamp ks vs
 

@@ -67,7 +67,8 @@ way_of z s ns es t r = by (fits z ns es) (check_of z.keys s) refl refl
 
 -- ---- for an outcome that the contract of `load` allows
 
-module _ (z : Size) (s ns es : List ℕ) (t : Tables) (r : Result Counters Unloaded) (told : done t r ≡ load_of z s ns es) where
+module _ (z : Size) (s ns es : List ℕ) (t : Tables) (r : Result Counters Unloaded)
+    (told : done t r ≡ load_of z s ns es) where
   abbrev Out : Type 0
   Out = Way z s ns es t r
 

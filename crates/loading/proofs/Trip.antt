@@ -14,7 +14,6 @@ use Rattle.register.specs.Register.{fresh_counters}
 use Rattle.listing.specs.Listing.{listing_of, write_of}
 use Rattle.listing.specs.Listing.{done as written_done}
 use Rattle.listing.specs.Refusals.{Good, Fit}
-use Rattle.listing.specs.declared.Unwritten.{Unwritten}
 use Rattle.listing.proofs.Pairs.{good_fit}
 use Rattle.listing.proofs.Refusals.{written}
 use Rattle.scanning.specs.Refusals.{IsListing}

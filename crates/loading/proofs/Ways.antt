@@ -35,7 +35,8 @@ taken l x n e h =
     let room : 0 + length x ≤ length l = omega arith in
     rw (← e, sets-eq x l 0 room, take-append_seam)
 
-module _ (most : ℕ) (s ko vo ks vs : List ℕ) (r : Result Whole Unread) (told : read_done ks vs r ≡ read_of most s ko vo)
+module _ (most : ℕ) (s ko vo ks vs : List ℕ) (r : Result Whole Unread)
+    (told : read_done ks vs r ≡ read_of most s ko vo)
     (w : Whole) (answer : r ≡ Ok w) where
   all_handed : Handed most s w.count
   all_handed = handed most s w.stamp w.count (sym (read_checks most s ko vo ks vs r told) ∙ answer)

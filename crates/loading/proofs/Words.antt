@@ -6,10 +6,8 @@ use mathlib.Core.List.{List, [], ◌∷◌}
 use mathlib.Core.Logic.{◌⊎◌, inl, inr}
 use mathlib.Core.Bool.{Bool, true, false, cond}
 use native.Mathlib.Omega.{arith}
-use native.Mathlib.Numerals.{add-one}
-use lib.ListN.{length, drop, get_or, drop_of_length-le}
+use lib.ListN.{length}
 use lib.Dec.{eqb}
-use lib.Seq.{drop-cons}
 use borrow.Author.Tests.{eq-eqb, ne_eqb}
 use Rattle.bundle.specs.Bundle.{lay_of, finish_of}
 use Rattle.nodes.specs.Nodes.{put_node, newest_at, unlocked, new_node}
@@ -87,7 +85,8 @@ pub record Rest (ks vs : List ℕ) (t : Tables) (i : ℕ) (left left' : List ℕ
 pub all_none : (ks vs : List ℕ) (t : Tables) → Rest ks vs t 0 ks vs t
 all_none ks vs t = record { keys = omega arith; all = refl }
 
-module _ (ks vs : List ℕ) (t : Tables) (i : ℕ) (left left' : List ℕ) (u : Tables) (rest : Rest ks vs t i left left' u) where
+module _ (ks vs : List ℕ) (t : Tables) (i : ℕ) (left left' : List ℕ) (u : Tables)
+    (rest : Rest ks vs t i left left' u) where
   module _ (k v : ℕ) (ks' vs' : List ℕ) (first : left ≡ k ∷ ks') (second : left' ≡ v ∷ vs') where
     pub all_on : (w : Tables) → w ≡ filed i k v u → Rest ks vs t (i + 1) ks' vs' w
     unfolding filed_all

@@ -98,7 +98,8 @@ key_says most stamp count last l = by (field_in key_name l) refl
     one : (k : ℕ) (t u v : Bool) → leb k last ≡ t → leb largest k ≡ u → leb most count ≡ v →
         field_in key_name l ≡ Some k →
         Says most (State.Key stamp count last) l
-        (cond t (Err Fault.Bad) (cond u (Err Fault.Bad) (cond v (Err Fault.Many) (Ok (State.Value stamp (count + 1) k)))))
+        (cond t (Err Fault.Bad) (cond u (Err Fault.Bad)
+        (cond v (Err Fault.Many) (Ok (State.Value stamp (count + 1) k)))))
     one k false false false e f g n = (
       key_line stamp count last k (leb-false k last e) (leb-false largest k f) refl
           (field_only key_name l k n).0 refl,

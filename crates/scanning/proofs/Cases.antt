@@ -99,7 +99,8 @@ unfolding check_of scan_of edition_of stamp_of count_of key_of lines_of ends cla
     number_in grows grow with_digit
 wrong_count = refl
 
-pub key_zero : check_of key_room (edition_1 ++ (stamp_0 ++ (key_0 ++ (value_0 ++ count_1)))) ≡ Err (Unread.BadListing 18)
+pub key_zero : check_of key_room (edition_1 ++ (stamp_0 ++ (key_0 ++ (value_0 ++ count_1)))) ≡
+    Err (Unread.BadListing 18)
 unfolding check_of scan_of edition_of stamp_of key_of keyed lines_of ends class_of field_in starts_with
     number_in grows grow with_digit
 key_zero = refl

@@ -8,7 +8,8 @@ use Rattle.scanning.specs.Reading.{check_of, done, read_of}
 use Rattle.scanning.specs.declared.Whole.{Whole}
 use Rattle.scanning.specs.declared.Unread.{Unread}
 
-pub check_one : (most : ℕ) (s : List ℕ) (r₁ r₂ : Result Whole Unread) → r₁ ≡ check_of most s → r₂ ≡ check_of most s → r₁ ≡ r₂
+pub check_one : (most : ℕ) (s : List ℕ) (r₁ r₂ : Result Whole Unread) → r₁ ≡ check_of most s →
+    r₂ ≡ check_of most s → r₁ ≡ r₂
 check_one most s r₁ r₂ p q = cc
 
 pub read_one : (most : ℕ) (s ks vs ks₁ vs₁ ks₂ vs₂ : List ℕ) (r₁ r₂ : Result Whole Unread) →

@@ -177,7 +177,8 @@ too_many most s = (λ h. many_more most s (check_of most s) (last_of_lem most s)
 
 -- ---- by document 01's numbers
 
-nine : (r : Result Whole Unread) (p : ℕ) → ((number_of r ≡ 9) × (values_of r ≡ p ∷ [])) ↔ (r ≡ Err (Unread.BadListing p))
+nine : (r : Result Whole Unread) (p : ℕ) →
+    ((number_of r ≡ 9) × (values_of r ≡ p ∷ [])) ↔ (r ≡ Err (Unread.BadListing p))
 nine r p = (to r, λ e. (rw e, rw e))
   where
     to : (r : Result Whole Unread) → (number_of r ≡ 9) × (values_of r ≡ p ∷ []) → r ≡ Err (Unread.BadListing p)
@@ -195,7 +196,8 @@ ten r = (to r, λ e. rw e)
 
 -- ---- for an outcome that the contract of `read` allows
 
-module _ (most : ℕ) (s ks vs ks' vs' : List ℕ) (r : Result Whole Unread) (told : done ks' vs' r ≡ read_of most s ks vs) where
+module _ (most : ℕ) (s ks vs ks' vs' : List ℕ) (r : Result Whole Unread)
+    (told : done ks' vs' r ≡ read_of most s ks vs) where
   by_answer : (a : Result Whole Unread) → done ks' vs' r ≡ on_reading s ks vs a → r ≡ a
   by_answer (Ok w) h = cc
   by_answer (Err e) h = cc
@@ -223,7 +225,8 @@ module _ (most : ℕ) (s ks vs ks' vs' : List ℕ) (r : Result Whole Unread) (to
   unfolding read_of
   refused_keeps = by (check_of most s) told
     where
-      by : (a : Result Whole Unread) → done ks' vs' r ≡ on_reading s ks vs a → (number_of r ≡ 0 → ⊥) → (ks' ≡ ks) × (vs' ≡ vs)
+      by : (a : Result Whole Unread) → done ks' vs' r ≡ on_reading s ks vs a →
+          (number_of r ≡ 0 → ⊥) → (ks' ≡ ks) × (vs' ≡ vs)
       by (Ok w) h no_refusal =
           let e : r ≡ Ok w = cc in absurd (no_refusal (rw e))
       by (Err e) h refusal = (cc, cc)

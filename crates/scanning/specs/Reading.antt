@@ -29,7 +29,8 @@ value_of stamp count last l = on_is (field_in value_name l) (λ n. Ok (State.Key
 
 unfoldable pub count_of : ℕ → ℕ → List ℕ → Result State Fault
 count_of stamp count l =
-    on_is (field_in count_name l) (λ n. cond (eqb n count) (Ok (State.Whole stamp count)) (Err Fault.Bad)) (Err Fault.Bad)
+    on_is (field_in count_name l) (λ n. cond (eqb n count) (Ok (State.Whole stamp count)) (Err Fault.Bad))
+    (Err Fault.Bad)
 
 -- a key in bounds and above the last: one more, unless there are `most` already
 unfoldable pub keyed : ℕ → ℕ → ℕ → ℕ → ℕ → Result State Fault

@@ -1,4 +1,3 @@
-use Rattle.std.proofs.Common.{◌≡◌, ◌+◌}
 use mathlib.Core.Logic.{inl, inr}
 use Rattle.loading.proofs.Words.{all_on, all_over}
 use Rattle.loading.proofs.file_all.Goals as goal

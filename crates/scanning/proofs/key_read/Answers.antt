@@ -1,6 +1,7 @@
 use Rattle.scanning.proofs.Order.{ways}
 use Rattle.scanning.proofs.key_read.Goals as goal
-use Rattle.scanning.proofs.key_read.Goals.{then-k-last-via-then-k-last, then-k-last-via-else-k-last+then-k-ge4294967295}
+use Rattle.scanning.proofs.key_read.Goals.{then-k-last-via-then-k-last}
+use Rattle.scanning.proofs.key_read.Goals.{then-k-last-via-else-k-last+then-k-ge4294967295}
 
 pub returns-then-most-count : goal.returns-then-most-count
 returns-then-most-count c = search ways
