@@ -3,54 +3,49 @@
 -- Not here: lines that were written (Back). Assumes nothing.
 use Prim.Native.Nat.{ℕ, suc, ◌+◌, ◌-◌, ◌≤◌, ◌<◌}
 use mathlib.Core.Path.{◌≡◌, refl, sym, ◌∙◌, ap}
-use mathlib.Core.List.{List, [], ◌∷◌}
-use mathlib.Core.Bool.{Bool, true, false, cond}
+use mathlib.Core.List.{List, [], ◌∷◌, append_assoc}
+use mathlib.Core.Bool.{Bool, true, false, not, cond}
 use native.Mathlib.Omega.{arith}
-use native.Mathlib.Numerals.{add-one}
 use mathlib.Core.Logic.{◌⊎◌, inl, inr, ⊎_elim}
-use native.Mathlib.Nat.{add-zero}
-use lib.ListN.{length, get_or, set, take, drop, drop_of_length-le, length-drop}
-use lib.Dec.{eqb}
-use lib.Seq.{drop-cons, drop-drop, sets, length-take-le, take_all}
-use borrow.Author.Tests.{eq-eqb, ne_eqb}
-use Rattle.text.specs.Text.{class_of, ends, torn, line, joined, lines_of, seen}
+use lib.ListN.{length, take, drop, drop_of_length-le, length-drop}
+use lib.Dec.{leb, ltb, eqb}
+use lib.Seq.{drop-drop, sets, sets-eq, length-take-le, take_all}
+use borrow.Author.Tests.{leb-true, eqb-true, ltb-false}
+use Rattle.text.specs.Text.{class_of, ends, ends_line, torn, line, joined, lines_of, seen}
 use Rattle.text.specs.Text.{line_length, starts_with, field_in, number_in}
 use Rattle.text.specs.declared.Byte.{Byte}
-use Rattle.std.specs.Prelude.{Option, None}
+use Rattle.std.specs.Prelude.{Option, Some, None, ◌&&◌}
+use Rattle.std.specs.List.{position_or_len}
+use Rattle.std.specs.Cmp.Lexicographic.{pointwise}
+use Rattle.std.proofs.lemmas.Option.{cond_some}
+use borrow.Rule.Slice.PartMut.{put_mid}
 use Rattle.text.specs.declared.Seen.{Seen}
 use Rattle.text.proofs.Basics.{impossible, split}
 
 -- ---- a line's end
 
-pub end_yes : (b : ℕ) (c : Byte) → c ≡ class_of b → c ≡ Byte.LineEnd → true ≡ ends b
-unfolding ends
-end_yes b c h e = rw (← h, e)
+-- byte 10 alone
+pub ends_at : (b : ℕ) → ends b ≡ eqb b 10
+unfolding ends class_of
+ends_at b = by (leb 48 b) (leb b 57) (eqb b 10) refl refl
+  where
+    by : (t u v : Bool) → leb 48 b ≡ t → eqb b 10 ≡ v →
+        ends_line (cond t (cond u (Byte.Digit (b - 48)) Byte.Other) (cond v Byte.LineEnd Byte.Other)) ≡ v
+    by true true true e f = absurd (omega (arith, leb-true 48 b e, eqb-true b 10 f))
+    by true false true e f = absurd (omega (arith, leb-true 48 b e, eqb-true b 10 f))
+    by true true false e f = refl
+    by true false false e f = refl
+    by false u true e f = refl
+    by false u false e f = refl
 
-pub end_digit : (b d : ℕ) (c : Byte) → c ≡ class_of b → c ≡ Byte.Digit d → false ≡ ends b
-unfolding ends
-end_digit b d c h e = rw (← h, e)
-
-pub end_other : (b : ℕ) (c : Byte) → c ≡ class_of b → c ≡ Byte.Other → false ≡ ends b
-unfolding ends
-end_other b c h e = rw (← h, e)
-
-pub ruleset ending = (end_yes, end_digit, end_other)
-
-module _ (s : List ℕ) (w i : ℕ) (inv : w ≡ i + line_length (drop i s)) where
-  pub stop_here : (t : Bool) → i < length s → t ≡ ends (get_or s i 0) → t ≡ true → i ≡ w
-  unfolding line_length
-  stop_here t h e y = rw (inv, drop-cons s i 0 h, ← e, y, add-zero)
-
-  pub go_on : (t : Bool) → i < length s → t ≡ ends (get_or s i 0) → t ≡ false →
-      w ≡ i + 1 + line_length (drop (i + 1) s)
-  unfolding line_length
-  go_on t h e y = rw (inv, drop-cons s i 0 h, ← e, y, add-one) (omega arith)
-
-  pub stop_last : length s ≤ i → i ≡ w
-  unfolding line_length
-  stop_last h = rw (inv, drop_of_length-le s h, add-zero)
-
-pub ruleset line_ended = (stop_here, go_on, stop_last)
+pub line_length_is : (s : List ℕ) → line_length s ≡ position_or_len (λ b. eqb b 10) s
+unfolding line_length
+line_length_is [] = refl
+line_length_is (b ∷ s) = rw (ends_at b) (by (eqb b 10) (position_or_len (λ x. eqb x 10) s) (line_length_is s))
+  where
+    by : (t : Bool) (k : ℕ) → line_length s ≡ k → cond t 0 (suc (line_length s)) ≡ cond (not t) (1 + k) 0
+    by true k ih = refl
+    by false k ih = omega (arith, ih)
 
 -- ---- lines by their first end
 
@@ -62,6 +57,34 @@ line_length_le (b ∷ s) = by (ends b) (line_length_le s)
     by : (t : Bool) → line_length s ≤ length s → cond t 0 (suc (line_length s)) ≤ suc (length s)
     by true ih = omega arith
     by false ih = omega arith
+
+pub rest_of : (s : List ℕ) (p : ℕ) → take (length s - p) (drop p s) ≡ drop p s
+rest_of s p = take_all (length s - p) (drop p s) (omega (arith, length-drop p s))
+
+-- what the search for a line's end answers
+module _ (s : List ℕ) (p : ℕ) (r : Option ℕ)
+    (e : r ≡ cond (ltb (position_or_len (λ b. eqb b 10) (drop p s)) (length (drop p s)))
+    (Some (position_or_len (λ b. eqb b 10) (drop p s))) None) where
+  pub end_found : (n : ℕ) → r ≡ Some n → p + n ≡ p + line_length (drop p s)
+  end_found n k =
+      let is = (cond_some _ (position_or_len (λ b. eqb b 10) (drop p s)) n (sym e ∙ k)).1 in
+      rw (line_length_is (drop p s), is)
+
+  pub end_none : r ≡ None → p ≤ length s → length s ≡ p + line_length (drop p s)
+  end_none k h =
+      by (ltb (position_or_len (λ b. eqb b 10) (drop p s)) (length (drop p s))) refl (sym e ∙ k)
+    where
+      by : (t : Bool) → ltb (position_or_len (λ b. eqb b 10) (drop p s)) (length (drop p s)) ≡ t →
+          cond t (Some (position_or_len (λ b. eqb b 10) (drop p s))) None ≡ None → length s ≡ p + line_length (drop p s)
+      by true t k = impossible (cc)
+      by false t k =
+          omega (
+            arith,
+            line_length_is (drop p s),
+            ltb-false _ _ t,
+            line_length_le (drop p s),
+            length-drop p s,
+          )
 
 pub lines_cut : (s : List ℕ) → line_length s < length s →
     lines_of s ≡ line (take (line_length s) s) (lines_of (drop (suc (line_length s)) s))
@@ -175,65 +198,33 @@ pub ruleset sighted = (line_from, line_upto, line_fits, line_next, line_falls)
 
 -- ---- names
 
-module _ (s n : List ℕ) (i : ℕ) (inv : starts_with n s ≡ starts_with (drop i n) (drop i s)) where
-  pub name_short : i < length n → length s ≤ i → false ≡ starts_with n s
-  unfolding starts_with
-  name_short h k = rw (inv, drop_of_length-le s k, drop-cons n i 0 h)
-
-  pub name_differs : i < length n → i < length s → (get_or s i 0 ≡ get_or n i 0 → ⊥) → false ≡ starts_with n s
-  unfolding starts_with
-  name_differs h k d = rw (inv, drop-cons s i 0 k, drop-cons n i 0 h, ne_eqb (get_or s i 0) (get_or n i 0) d)
-
-  pub name_on : i < length n → i < length s → get_or s i 0 ≡ get_or n i 0 →
-      starts_with n s ≡ starts_with (drop (i + 1) n) (drop (i + 1) s)
-  unfolding starts_with
-  name_on h k e = rw (inv, drop-cons s i 0 k, drop-cons n i 0 h, eq-eqb (get_or s i 0) (get_or n i 0) e, add-one)
-
-  pub name_all : length n ≤ i → true ≡ starts_with n s
-  unfolding starts_with
-  name_all h = rw (inv, drop_of_length-le n h)
-
-pub ruleset named = (name_short, name_differs, name_on, name_all)
+-- what the library's test of a prefix says
+pub starts_as : (n s : List ℕ) → pointwise eqb (take (length n) s) n ≡ starts_with n s
+unfolding starts_with
+starts_as [] s = refl
+starts_as (a ∷ n) [] = refl
+starts_as (a ∷ n) (b ∷ s) = by (eqb b a) (starts_as n s)
+  where
+    by : (t : Bool) → pointwise eqb (take (length n) s) n ≡ starts_with n s →
+        (t && pointwise eqb (take (length n) s) n) ≡ cond t (starts_with n s) false
+    by true ih = ih
+    by false ih = refl
 
 -- ---- fields
 
-begins_length : (n s : List ℕ) → true ≡ starts_with n s → length n ≤ length s
-unfolding starts_with
-begins_length [] s h = omega arith
-begins_length (a ∷ n) [] h = impossible (cc)
-begins_length (a ∷ n) (b ∷ s) h = by (eqb b a) (λ k. begins_length n s k) h
-  where
-    by : (t : Bool) → (true ≡ starts_with n s → length n ≤ length s) → true ≡ cond t (starts_with n s) false →
-        suc (length n) ≤ suc (length s)
-    by true ih k = omega (arith, ih k)
-    by false ih k = impossible (cc)
-
-pub starts_length : (n s : List ℕ) (t : Bool) → t ≡ starts_with n s → t ≡ true → length n ≤ length s
-starts_length n s t h e = begins_length n s (cc)
-
-pub field_is : (n s : List ℕ) (r : Option ℕ) (t : Bool) → t ≡ starts_with n s → t ≡ true →
-    r ≡ number_in (take (length s - length n) (drop (length n) s)) → r ≡ field_in n s
+pub field_is : (n s t : List ℕ) (r : Option ℕ) → pointwise eqb (take (length n) s) n ≡ true → t ≡ drop (length n) s →
+    r ≡ number_in t → r ≡ field_in n s
 unfolding field_in
-field_is n s r t e y h =
-    let z : length (drop (length n) s) ≤ length s - length n = omega (arith, length-drop (length n) s) in
-    rw (← e, y, h, take_all (length s - length n) (drop (length n) s) z)
+field_is n s t r e d h = rw (← starts_as n s, e, h, d)
 
-pub field_not : (n s : List ℕ) (t : Bool) → t ≡ starts_with n s → t ≡ false → None ≡ field_in n s
+pub field_not : (n s : List ℕ) → pointwise eqb (take (length n) s) n ≡ false → None ≡ field_in n s
 unfolding field_in
-field_not n s t e y = rw (← e, y)
+field_not n s e = rw (← starts_as n s, e)
 
 pub ruleset fields = (field_is, field_not)
 
 -- ---- bytes written
 
-module _ (o l s : List ℕ) (p i : ℕ) (inv : sets o p s ≡ sets l (p + i) (drop i s)) where
-  pub put_on : i < length s → sets o p s ≡ sets (set l (p + i) (get_or s i 0)) (p + (i + 1)) (drop (i + 1) s)
-  put_on h = let e : p + (i + 1) ≡ suc (p + i) = omega arith in rw (e, inv, add-one, drop-cons s i 0 h)
-
-  pub put_all : length s ≤ i → l ≡ sets o p s
-  put_all h = rw (inv, drop_of_length-le s h)
-
-pub put_none : (o s : List ℕ) (p : ℕ) → sets o p s ≡ sets o (p + 0) (drop 0 s)
-put_none o s p = rw add-zero
-
-pub ruleset bytes_put = (put_on, put_all, put_none)
+pub put_between : (o s : List ℕ) (p : ℕ) → p + length s ≤ length o →
+    put_mid p (p + length s - p) o s ≡ sets o p s
+put_between o s p h = let e : p + length s - p ≡ length s = omega arith in rw (e, sets-eq s o p h, append_assoc, drop-drop (length s) p o)

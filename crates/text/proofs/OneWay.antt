@@ -11,12 +11,13 @@ use native.Mathlib.Nat.{div-add-mod', eq-zero-or-pos}
 use lib.ListN.{length, drop}
 use lib.Dec.{leb, eqb}
 use borrow.Author.Tests.{ne_eqb, eqb-true, leb-true}
-use Rattle.text.specs.Text.{largest, ends, ends_line, Lines, over, torn, line, joined, lines_of, class_of}
+use Rattle.std.specs.Option.{option_and_then}
+use Rattle.text.specs.Text.{largest, ends, Lines, over, torn, line, joined, lines_of, class_of}
 use Rattle.text.specs.Text.{with_digit}
-use Rattle.text.specs.Text.{with_byte, grow, grows, whole, number_in, digits, starts_with, field_in}
+use Rattle.text.specs.Text.{with_byte, grow, grows, number_in, digits, starts_with, field_in}
 use Rattle.text.specs.declared.Byte.{Byte}
-use Rattle.text.specs.declared.Partial.{Partial}
-use Rattle.std.specs.Prelude.{Some, None}
+use Rattle.std.specs.Prelude.{Option, Some, None}
+use Rattle.text.proofs.Lines.{ends_at}
 use Rattle.text.proofs.Write.{one_digit, more_digits}
 use Rattle.text.proofs.Basics.{impossible}
 
@@ -33,20 +34,6 @@ digit_of b d = by (leb 48 b) (leb b 57) (eqb b 10) refl refl
     by false u true e h k = impossible (cc)
     by false u false e h k = impossible (cc)
 
-never : (l : List ℕ) → grows Partial.Not l ≡ Partial.Not
-unfolding grows grow with_digit
-never [] = refl
-never (b ∷ l) = by (class_of b) (never l)
-  where
-    by : (c : Byte) → grows Partial.Not l ≡ Partial.Not → grows (with_byte Partial.Not c) l ≡ Partial.Not
-    by (Byte.Digit d) ih = ih
-    by Byte.LineEnd ih = ih
-    by Byte.Other ih = ih
-
-not_is : {A : Type 0} (l : List ℕ) (n : ℕ) → grows Partial.Not l ≡ Partial.Is n → A
-not_is l n h =
-    let k : Partial.Not ≡ Partial.Is n = sym (never l) ∙ h in impossible (cc)
-
 -- a digit more is a digit more
 snoc : (v d : ℕ) (l : List ℕ) → 0 < v → d < 10 → v * 10 + d ≤ largest →
     digits (v * 10 + d) ++ l ≡ digits v ++ ((48 + d) ∷ l)
@@ -58,52 +45,51 @@ snoc v d l p h b =
 abbrev IsDigits : List ℕ → ℕ → Type 0
 IsDigits l n = (l ≡ digits n) × (n ≤ largest)
 
-only_more : (l : List ℕ) (v n : ℕ) → 0 < v → v ≤ largest → grows (Partial.Is v) l ≡ Partial.Is n →
+-- the bytes of l after a number, if there is one
+abbrev after : List ℕ → Option ℕ → Option ℕ
+after l r = option_and_then (λ v. grows (Some v) l) r
+
+only_more : (l : List ℕ) (v n : ℕ) → 0 < v → v ≤ largest → grows (Some v) l ≡ Some n →
     IsDigits (digits v ++ l) n
 unfolding grows grow with_digit
 only_more [] v n p b h = let z : v ≡ n = cc in (rw (append-nil, z), omega arith)
 only_more (x ∷ l) v n p b h = by (class_of x) refl (λ w q c k. only_more l w n q c k) h
   where
     within : (d : ℕ) (t : Bool) → leb (v * 10 + d) largest ≡ t → d < 10 → x ≡ 48 + d →
-        ((w : ℕ) → 0 < w → w ≤ largest → grows (Partial.Is w) l ≡ Partial.Is n → IsDigits (digits w ++ l) n) →
-        grows (cond t (Partial.Is (v * 10 + d)) Partial.Not) l ≡ Partial.Is n → IsDigits (digits v ++ (x ∷ l)) n
+        ((w : ℕ) → 0 < w → w ≤ largest → grows (Some w) l ≡ Some n → IsDigits (digits w ++ l) n) →
+        after l (cond t (Some (v * 10 + d)) None) ≡ Some n → IsDigits (digits v ++ (x ∷ l)) n
     within d true e small z ih k =
         let top : v * 10 + d ≤ largest = leb-true (v * 10 + d) largest e in
         rw (z, ← snoc v d l p small top) (ih (v * 10 + d) (omega arith) top k)
-    within d false e small z ih k = not_is l n k
+    within d false e small z ih k = impossible (cc)
 
     by : (c : Byte) → class_of x ≡ c →
-        ((w : ℕ) → 0 < w → w ≤ largest → grows (Partial.Is w) l ≡ Partial.Is n → IsDigits (digits w ++ l) n) →
-        grows (with_byte (Partial.Is v) c) l ≡ Partial.Is n → IsDigits (digits v ++ (x ∷ l)) n
+        ((w : ℕ) → 0 < w → w ≤ largest → grows (Some w) l ≡ Some n → IsDigits (digits w ++ l) n) →
+        after l (with_byte (Some v) c) ≡ Some n → IsDigits (digits v ++ (x ∷ l)) n
     by (Byte.Digit d) e ih k =
         let is = digit_of x d e in
         within d (leb (v * 10 + d) largest) refl is.0 is.1 ih
         (rw (ne_eqb v 0 (λ z. omega arith), with_digit) at k)
-    by Byte.LineEnd e ih k = not_is l n k
-    by Byte.Other e ih k = not_is l n k
-
-whole_is : (p : Partial) (n : ℕ) → whole p ≡ Some n → p ≡ Partial.Is n
-whole_is Partial.Empty n h = impossible (cc)
-whole_is (Partial.Is v) n h = let z : v ≡ n = cc in rw z
-whole_is Partial.Not n h = impossible (cc)
+    by Byte.LineEnd e ih k = impossible (cc)
+    by Byte.Other e ih k = impossible (cc)
 
 -- after a first 0 nothing follows
-zero_alone : (l : List ℕ) (n : ℕ) → grows (Partial.Is 0) l ≡ Partial.Is n → IsDigits (48 ∷ l) n
+zero_alone : (l : List ℕ) (n : ℕ) → grows (Some 0) l ≡ Some n → IsDigits (48 ∷ l) n
 unfolding grows grow with_digit
 zero_alone [] n h = let z : 0 ≡ n = cc in (rw (← z) (sym (one_digit 0 (omega arith))), omega arith)
 zero_alone (x ∷ l) n h = by (class_of x) h
   where
-    by : (c : Byte) → grows (with_byte (Partial.Is 0) c) l ≡ Partial.Is n → IsDigits (48 ∷ (x ∷ l)) n
-    by (Byte.Digit d) k = not_is l n k
-    by Byte.LineEnd k = not_is l n k
-    by Byte.Other k = not_is l n k
+    by : (c : Byte) → after l (with_byte (Some 0) c) ≡ Some n → IsDigits (48 ∷ (x ∷ l)) n
+    by (Byte.Digit d) k = impossible (cc)
+    by Byte.LineEnd k = impossible (cc)
+    by Byte.Other k = impossible (cc)
 
-only_grown : (l : List ℕ) (n : ℕ) → grows Partial.Empty l ≡ Partial.Is n → IsDigits l n
+only_grown : (l : List ℕ) (n : ℕ) → grows None l ≡ Some n → IsDigits l n
 unfolding grows grow with_digit
 only_grown [] n h = impossible (cc)
 only_grown (x ∷ l) n h = by (class_of x) refl h
   where
-    first : (d : ℕ) → d < 10 → x ≡ 48 + d → (d ≡ 0) ⊎ (0 < d) → grows (Partial.Is d) l ≡ Partial.Is n →
+    first : (d : ℕ) → d < 10 → x ≡ 48 + d → (d ≡ 0) ⊎ (0 < d) → grows (Some d) l ≡ Some n →
         IsDigits (x ∷ l) n
     first d small z (inl e) k =
         let z0 : x ≡ 48 = omega arith in rw z0 (zero_alone l n (rw e at k))
@@ -111,15 +97,15 @@ only_grown (x ∷ l) n h = by (class_of x) refl h
         let r : d % 10 ≡ d = omega (arith, div-add-mod' d 10) in
         rw (z) (rw (one_digit d small, r) at (only_more l d n e (omega arith) k))
 
-    by : (c : Byte) → class_of x ≡ c → grows (with_byte Partial.Empty c) l ≡ Partial.Is n → IsDigits (x ∷ l) n
+    by : (c : Byte) → class_of x ≡ c → after l (with_byte None c) ≡ Some n → IsDigits (x ∷ l) n
     by (Byte.Digit d) e k = let is = digit_of x d e in first d is.0 is.1 (eq-zero-or-pos d) k
-    by Byte.LineEnd e k = not_is l n k
-    by Byte.Other e k = not_is l n k
+    by Byte.LineEnd e k = impossible (cc)
+    by Byte.Other e k = impossible (cc)
 
 -- what reads as n is how n is written
 pub number_only : (l : List ℕ) (n : ℕ) → number_in l ≡ Some n → (l ≡ digits n) × (n ≤ largest)
 unfolding number_in
-number_only l n h = only_grown l n (whole_is (grows Partial.Empty l) n h)
+number_only l n h = only_grown l n h
 
 starts_only : (name s : List ℕ) → starts_with name s ≡ true → s ≡ name ++ drop (length name) s
 unfolding starts_with
@@ -147,15 +133,7 @@ field_only name s n = by (starts_with name s) refl
 -- ---- lines: what they say of the bytes
 
 end_is : (b : ℕ) → ends b ≡ true → b ≡ 10
-unfolding ends class_of
-end_is b = by (leb 48 b) (leb b 57) (eqb b 10) refl
-  where
-    by : (t u v : Bool) → eqb b 10 ≡ v →
-        ends_line (cond t (cond u (Byte.Digit (b - 48)) Byte.Other) (cond v Byte.LineEnd Byte.Other)) ≡ true → b ≡ 10
-    by true true v e k = impossible (cc)
-    by true false v e k = impossible (cc)
-    by false u true e k = eqb-true b 10 e
-    by false u false e k = impossible (cc)
+end_is b h = eqb-true b 10 (sym (ends_at b) ∙ h)
 
 pub over_only : (s : List ℕ) → lines_of s ≡ over → s ≡ []
 unfolding lines_of

@@ -9,11 +9,10 @@ use native.Mathlib.Omega.{arith}
 use native.Mathlib.Numerals.{add-one}
 use lib.ListN.{length, get_or, drop, drop_of_length-le}
 use lib.Seq.{drop-cons}
-use borrow.Author.Tests.{le-leb, lt-leb, eq-eqb, ne_eqb}
-use Rattle.text.specs.Text.{largest, class_of, with_digit, grow, grows, whole, number_in}
+use borrow.Author.Tests.{le-leb, lt-leb, ne_eqb}
+use Rattle.text.specs.Text.{largest, class_of, with_digit, grow, grows, number_in}
 use Rattle.text.specs.declared.Byte.{Byte}
-use Rattle.std.specs.Prelude.{Some, None}
-use Rattle.text.specs.declared.Partial.{Partial}
+use Rattle.std.specs.Prelude.{Option, Some, None}
 
 pub digit : (b : ℕ) → 48 ≤ b → b < 58 → Byte.Digit (b - 48) ≡ class_of b
 unfolding class_of
@@ -33,63 +32,54 @@ high b h = let lo : 48 ≤ b = omega arith in let hi : 57 < b = omega arith in s
 
 pub ruleset classes = (digit, line_end, low, high)
 
-pub first : (n : Partial) (d : ℕ) → n ≡ Partial.Empty → Partial.Is d ≡ with_digit n d
-unfolding with_digit
-first n d e = rw e
+module _ (n : Option ℕ) (d : ℕ) where
+  pub first : n ≡ None → Some d ≡ with_digit n d
+  unfolding with_digit
+  first e = rw e
 
-pub no_more : (n : Partial) (d : ℕ) → n ≡ Partial.Not → Partial.Not ≡ with_digit n d
-unfolding with_digit
-no_more n d e = rw e
+  pub leading : n ≡ Some 0 → None ≡ with_digit n d
+  unfolding with_digit
+  leading e = rw e
 
-pub leading : (n : Partial) (v d : ℕ) → n ≡ Partial.Is v → v ≡ 0 → Partial.Not ≡ with_digit n d
-unfolding with_digit
-leading n v d e z = rw (e, eq-eqb v 0 z)
+  module _ (v : ℕ) (e : n ≡ Some v) (z : v ≡ 0 → ⊥) where
+    pub longer : v * 10 + d ≤ largest → Some (v * 10 + d) ≡ with_digit n d
+    unfolding with_digit
+    longer h = simp (e, ne_eqb v 0 z, le-leb (v * 10 + d) largest h)
 
-pub longer : (n : Partial) (v d : ℕ) → n ≡ Partial.Is v → (v ≡ 0 → ⊥) → v * 10 + d ≤ largest →
-    Partial.Is (v * 10 + d) ≡ with_digit n d
-unfolding with_digit
-longer n v d e z h = simp (e, ne_eqb v 0 z, le-leb (v * 10 + d) largest h)
+    pub too_large : largest < v * 10 + d → None ≡ with_digit n d
+    unfolding with_digit
+    too_large h = simp (e, ne_eqb v 0 z, lt-leb (v * 10 + d) largest h)
 
-pub too_large : (n : Partial) (v d : ℕ) → n ≡ Partial.Is v → (v ≡ 0 → ⊥) → largest < v * 10 + d →
-    Partial.Not ≡ with_digit n d
-unfolding with_digit
-too_large n v d e z h = simp (e, ne_eqb v 0 z, lt-leb (v * 10 + d) largest h)
+pub ruleset digit_more = (first, leading, longer, too_large)
 
-pub ruleset digit_more = (first, no_more, leading, longer, too_large)
+module _ (n : Option ℕ) (b : ℕ) (c : Byte) (h : c ≡ class_of b) where
+  pub by_digit : (r : Option ℕ) (d : ℕ) → c ≡ Byte.Digit d → r ≡ with_digit n d → r ≡ grow n b
+  unfolding grow
+  by_digit r d e k = rw (← h, e, k)
 
-pub by_digit : (n r : Partial) (b d : ℕ) (c : Byte) → c ≡ class_of b → c ≡ Byte.Digit d → r ≡ with_digit n d →
-    r ≡ grow n b
-unfolding grow
-by_digit n r b d c h e k = rw (← h, e, k)
+  pub by_end : c ≡ Byte.LineEnd → None ≡ grow n b
+  unfolding grow
+  by_end e = rw (← h, e)
 
-pub by_end : (n : Partial) (b : ℕ) (c : Byte) → c ≡ class_of b → c ≡ Byte.LineEnd → Partial.Not ≡ grow n b
-unfolding grow
-by_end n b c h e = rw (← h, e)
-
-pub by_other : (n : Partial) (b : ℕ) (c : Byte) → c ≡ class_of b → c ≡ Byte.Other → Partial.Not ≡ grow n b
-unfolding grow
-by_other n b c h e = rw (← h, e)
+  pub by_other : c ≡ Byte.Other → None ≡ grow n b
+  unfolding grow
+  by_other e = rw (← h, e)
 
 pub ruleset byte_more = (by_digit, by_end, by_other)
 
 -- what is left to read answers as the whole
-module _ (s : List ℕ) (n : Partial) (i : ℕ) (inv : grows Partial.Empty s ≡ grows n (drop i s)) where
-  pub read_on : (m : Partial) → i < length s → m ≡ grow n (get_or s i 0) →
-      grows Partial.Empty s ≡ grows m (drop (i + 1) s)
+module _ (s : List ℕ) (n : Option ℕ) (i : ℕ) (inv : grows None s ≡ grows n (drop i s)) where
+  pub read_on : (m : ℕ) (r : Option ℕ) → i < length s → r ≡ grow n (get_or s i 0) → r ≡ Some m →
+      grows None s ≡ grows (Some m) (drop (i + 1) s)
   unfolding grows
-  read_on m h e = rw (inv, add-one, drop-cons s i 0 h, e)
+  read_on m r h e k = rw (inv, add-one, drop-cons s i 0 h, ← e, k)
 
-  read_all : length s ≤ i → whole n ≡ number_in s
+  pub read_stop : (r : Option ℕ) → i < length s → r ≡ grow n (get_or s i 0) → r ≡ None → None ≡ number_in s
+  unfolding number_in grows
+  read_stop r h e k = rw (inv, drop-cons s i 0 h, ← e, k)
+
+  pub read_all : length s ≤ i → n ≡ number_in s
   unfolding number_in grows
   read_all h = rw (inv, drop_of_length-le s h)
 
-  pub read_number : (v : ℕ) → length s ≤ i → n ≡ Partial.Is v → Some v ≡ number_in s
-  read_number v h e = rw (e) at (read_all h)
-
-  pub read_empty : length s ≤ i → n ≡ Partial.Empty → None ≡ number_in s
-  read_empty h e = rw (e) at (read_all h)
-
-  pub read_not : length s ≤ i → n ≡ Partial.Not → None ≡ number_in s
-  read_not h e = rw (e) at (read_all h)
-
-pub ruleset number_read = (read_on, read_number, read_empty, read_not)
+pub ruleset number_read = (read_on, read_stop, read_all)

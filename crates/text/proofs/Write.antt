@@ -11,12 +11,12 @@ use native.Mathlib.Nat.{div-add-mod', mod-lt, pow-suc, add-zero}
 use lib.ListN.{length, set, length-append}
 use lib.Seq.{sets}
 use lib.Dec.{ltb}
-use Rattle.text.proofs.Basics.{split}
+use Rattle.text.proofs.Basics.{impossible, split}
 use borrow.Author.Tests.{lt-ltb, le-ltb, le-leb, ne_eqb, ltb-true, ltb-false}
-use Rattle.text.specs.Text.{largest, class_of, with_digit, grow, grows, whole, number_in, digits, digits_in}
+use Rattle.std.specs.Option.{option_and_then}
+use Rattle.text.specs.Text.{largest, class_of, with_digit, grow, grows, number_in, digits, digits_in}
 use Rattle.text.specs.declared.Byte.{Byte}
-use Rattle.std.specs.Prelude.{Some}
-use Rattle.text.specs.declared.Partial.{Partial}
+use Rattle.std.specs.Prelude.{Option, Some, None}
 
 -- ---- one digit, or the digits of n / 10 and one more
 
@@ -141,10 +141,16 @@ after_more p n r h b e = omega (arith, wide_more n (length (digits (n / 10))) h 
 
 -- ---- reading back what was written
 
-grows_append : (n : Partial) (a b : List ℕ) → grows n (a ++ b) ≡ grows (grows n a) b
+grows_append : (n : Option ℕ) (a b : List ℕ) (v : ℕ) → grows n a ≡ Some v → grows n (a ++ b) ≡ grows (Some v) b
 unfolding grows
-grows_append n [] b = refl
-grows_append n (x ∷ a) b = grows_append (grow n x) a b
+grows_append n [] b v h = rw h
+grows_append n (x ∷ a) b v h = by (grow n x) (λ w k. grows_append (Some w) a b v k) h
+  where
+    by : (r : Option ℕ) → ((w : ℕ) → grows (Some w) a ≡ Some v → grows (Some w) (a ++ b) ≡ grows (Some v) b) →
+        option_and_then (λ w. grows (Some w) a) r ≡ Some v →
+        option_and_then (λ w. grows (Some w) (a ++ b)) r ≡ grows (Some v) b
+    by (Some w) ih k = ih w k
+    by None ih k = impossible (cc)
 
 pub digit_class : (d : ℕ) → d < 10 → class_of (48 + d) ≡ Byte.Digit d
 unfolding class_of
@@ -154,24 +160,24 @@ digit_class d h =
     let e : 48 + d - 48 ≡ d = omega arith in
     simp (le-leb 48 (48 + d) lo, le-leb (48 + d) 57 hi, e)
 
-first_digit : (n : ℕ) → n < 10 → grows Partial.Empty (digits n) ≡ Partial.Is n
+first_digit : (n : ℕ) → n < 10 → grows None (digits n) ≡ Some n
 unfolding grows grow with_digit
 first_digit n h =
     let e : n % 10 ≡ n = omega (arith, div-add-mod' n 10) in
     rw (one_digit n h, e, digit_class n h)
 
-last_digit : (n : ℕ) → 10 ≤ n → n ≤ largest → grows Partial.Empty (digits (n / 10)) ≡ Partial.Is (n / 10) →
-    grows Partial.Empty (digits n) ≡ Partial.Is n
+last_digit : (n : ℕ) → 10 ≤ n → n ≤ largest → grows None (digits (n / 10)) ≡ Some (n / 10) →
+    grows None (digits n) ≡ Some n
 unfolding grows grow with_digit
 last_digit n h b ih =
     let w : n < 18446744073709551616 = omega arith in
     let small : n % 10 < 10 = mod-lt n (omega arith) in
     let some : (n / 10 ≡ 0 → ⊥) = λ z. omega (arith, div-add-mod' n 10) in
-    let whole : n / 10 * 10 + n % 10 ≡ n = div-add-mod' n 10 in
-    rw (more_digits n h w, grows_append, ih, digit_class (n % 10) small, ne_eqb (n / 10) 0 some)
-    (rw (whole, le-leb n largest b))
+    let all : n / 10 * 10 + n % 10 ≡ n = div-add-mod' n 10 in
+    rw (more_digits n h w, grows_append None (digits (n / 10)) _ (n / 10) ih, digit_class (n % 10) small, ne_eqb (n / 10) 0 some)
+    (rw (all, le-leb n largest b))
 
-read_back_in : (f n : ℕ) → n < 10 ^ f → n ≤ largest → grows Partial.Empty (digits n) ≡ Partial.Is n
+read_back_in : (f n : ℕ) → n < 10 ^ f → n ≤ largest → grows None (digits n) ≡ Some n
 read_back_in zero n h b = first_digit n (omega (arith, h))
 read_back_in (suc f) n h b =
     ⊎_elim (λ small. first_digit n small)
@@ -181,7 +187,7 @@ read_back_in (suc f) n h b =
 -- the law: what was written is read as the number
 pub read_back : (n : ℕ) → n ≤ largest → number_in (digits n) ≡ Some n
 unfolding number_in
-read_back n b = ap whole (read_back_in 10 n (omega (arith, b)) b)
+read_back n b = read_back_in 10 n (omega (arith, b)) b
 
 pub ruleset digits_put = (put_one, after_one, put_more, after_more, room_one, room_more, room_last, fits_last)
 

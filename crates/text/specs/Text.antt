@@ -3,11 +3,10 @@
 -- Not here: which names there are and the order of lines (the listing's), commas (the runner's).
 -- Assumes nothing.
 use Rattle.std.specs.Prelude.{ℕ, zero, suc, ◌+◌, ◌-◌, ◌*◌, ◌/◌, ◌%◌, List, [], ◌∷◌, ◌++◌, length, drop}
-use Rattle.std.specs.Prelude.{Bool, true, false, cond, ◌≡◌, ltb, leb, eqb}
+use Rattle.std.specs.Prelude.{Bool, true, false, cond, ◌≡◌, ltb, leb, eqb, Option, Some, None}
+use Rattle.std.specs.Option.{option_and_then}
 use Rattle.std.proofs.lemmas.List.Edits.{sets}
 use Rattle.text.specs.declared.Byte.{Byte}
-use Rattle.std.specs.Prelude.{Option, Some, None}
-use Rattle.text.specs.declared.Partial.{Partial}
 use Rattle.text.specs.declared.Seen.{Seen}
 
 -- bytes 48 to 57 are digits, 10 ends a line
@@ -20,34 +19,27 @@ class_of b =
 abbrev pub largest : ℕ
 largest = 4294967295
 
--- one digit more: nothing may follow a first 0
-unfoldable pub with_digit : Partial → ℕ → Partial
-with_digit Partial.Empty d = Partial.Is d
-with_digit (Partial.Is v) d =
-    cond (eqb v 0) Partial.Not (cond (leb (v * 10 + d) largest) (Partial.Is (v * 10 + d)) Partial.Not)
-with_digit Partial.Not d = Partial.Not
+-- one digit more, if that is a number; before the first digit there is none. Nothing may follow a first 0
+unfoldable pub with_digit : Option ℕ → ℕ → Option ℕ
+with_digit None d = Some d
+with_digit (Some v) d = cond (eqb v 0) None (cond (leb (v * 10 + d) largest) (Some (v * 10 + d)) None)
 
-abbrev pub with_byte : Partial → Byte → Partial
+abbrev pub with_byte : Option ℕ → Byte → Option ℕ
 with_byte n (Byte.Digit d) = with_digit n d
-with_byte n Byte.LineEnd = Partial.Not
-with_byte n Byte.Other = Partial.Not
+with_byte n Byte.LineEnd = None
+with_byte n Byte.Other = None
 
-unfoldable pub grow : Partial → ℕ → Partial
+unfoldable pub grow : Option ℕ → ℕ → Option ℕ
 grow n b = with_byte n (class_of b)
 
 -- n with the bytes of a list, one after the other
-unfoldable pub grows : Partial → List ℕ → Partial
+unfoldable pub grows : Option ℕ → List ℕ → Option ℕ
 grows n [] = n
-grows n (b ∷ s) = grows (grow n b) s
-
-abbrev pub whole : Partial → Option ℕ
-whole Partial.Empty = None
-whole (Partial.Is n) = Some n
-whole Partial.Not = None
+grows n (b ∷ s) = option_and_then (λ v. grows (Some v) s) (grow n b)
 
 -- what all the bytes are as one number
 unfoldable pub number_in : List ℕ → Option ℕ
-number_in s = whole (grows Partial.Empty s)
+number_in s = grows None s
 
 -- ---- writing one: 20 digits are enough for 64 bits
 

@@ -7,8 +7,8 @@
 #![tactic(auto)]
 
 ghost use Rattle.std.specs.Prelude.{◌≡◌, ◌+◌, ◌≤◌, length, drop};
-ghost use Rattle.text.specs.Text.{class_of, ends, with_digit, grow, number_in, digits, Puts};
-ghost use Rattle.text.specs.Text.{seen, lines_of, line_length, starts_with, field_in};
+ghost use Rattle.text.specs.Text.{class_of, with_digit, grow, number_in, digits, Puts};
+ghost use Rattle.text.specs.Text.{seen, lines_of, line_length, field_in};
 
 // What a byte is in a number or a line.
 #[derive(Clone, Copy)]
@@ -16,14 +16,6 @@ pub enum Byte {
     Digit(u32),
     LineEnd,
     Other,
-}
-
-// What the first bytes of a row are as a number: nothing yet, a number, or none.
-#[derive(Clone, Copy)]
-pub enum Partial {
-    Empty,
-    Is(u32),
-    Not,
 }
 
 // What stands at a place: the input's end, a line without its line end, or a line with its line end at a place.
@@ -35,65 +27,54 @@ pub enum Seen {
 }
 
 // Bytes 48 to 57 are digits, 10 ends a line.
+#[tactic(auto, using(crate::proofs::Read::classes))]
 pub fn classify(b: u8) -> Byte
     ensures { result ≡ class_of b }
 {
     match b {
-        48..=57 => Byte::Digit(b as u32 - 48),
-        10 => Byte::LineEnd,
+        b'0'..=b'9' => Byte::Digit((b - b'0') as u32),
+        b'\n' => Byte::LineEnd,
         _ => Byte::Other,
     }
 }
 
-// The number n with one digit more. The sum is made in 64 bits, where it cannot wrap.
-fn with_digit(n: Partial, d: u32) -> Partial
+// The number n with one digit more, if that is a number; before the first digit n is `None`.
+#[tactic(auto, using(crate::proofs::Read::digit_more))]
+fn with_digit(n: Option<u32>, d: u32) -> Option<u32>
     ensures { result ≡ with_digit n d }
 {
     match n {
-        Partial::Empty => Partial::Is(d),
-        Partial::Is(v) => {
-            if v == 0 {
-                return Partial::Not;
-            }
-            let x = v as u64 * 10 + d as u64;
-            if x <= 4294967295 {
-                return Partial::Is(x as u32);
-            }
-            Partial::Not
-        }
-        Partial::Not => Partial::Not,
+        None => Some(d),
+        Some(0) => None,
+        Some(v) => v.checked_mul(10)?.checked_add(d),
     }
 }
 
-// The number n with one byte more.
-fn grown(n: Partial, b: u8) -> Partial
+// The number n with one byte more, if that is a number.
+#[tactic(auto, using(crate::proofs::Read::byte_more))]
+fn grown(n: Option<u32>, b: u8) -> Option<u32>
     ensures { result ≡ grow n b }
 {
     match classify(b) {
         Byte::Digit(d) => with_digit(n, d),
-        Byte::LineEnd => Partial::Not,
-        Byte::Other => Partial::Not,
+        Byte::LineEnd | Byte::Other => None,
     }
 }
 
 // What the whole of s is as a number.
+#[tactic(auto, using(crate::proofs::Read::number_read))]
 pub fn read_number(s: &[u8]) -> Option<u32>
     ensures { result ≡ number_in s.now }
 {
-    let mut n = Partial::Empty;
-    let mut i: usize = 0;
-    while i < s.len() {
-        n = grown(n, s[i]);
-        i += 1;
+    let mut n = None;
+    for b in s {
+        n = Some(grown(n, *b)?);
     }
-    match n {
-        Partial::Empty => None,
-        Partial::Is(v) => Some(v),
-        Partial::Not => None,
-    }
+    n
 }
 
 // How many digits n has.
+#[tactic(auto, using(crate::proofs::Write::digits_wide))]
 pub fn width(n: u64) -> usize
     ensures { result ≡ length (digits n) }
 {
@@ -104,41 +85,29 @@ pub fn width(n: u64) -> usize
 }
 
 // Writes n at `place`, each digit straight to its own place, and answers the place after it.
+#[tactic(auto, using(crate::proofs::Write::digits_put))]
 pub fn put_number(out: &mut [u8], place: usize, n: u64) -> usize
     requires { place + length (digits n) ≤ length out.old }
     ensures { Puts out.old out.new place (digits n) result }
 {
     if n < 10 {
-        out[place] = 48 + (n % 10) as u8;
+        out[place] = b'0' + (n % 10) as u8;
         return place + 1;
     }
     let p = put_number(out, place, n / 10);
-    out[p] = 48 + (n % 10) as u8;
+    out[p] = b'0' + (n % 10) as u8;
     p + 1
 }
 
 // Writes the bytes s at `place`, and answers the place after them.
+#[tactic(auto, using(crate::proofs::Lines::put_between))]
 pub fn put_bytes(out: &mut [u8], place: usize, s: &[u8]) -> usize
     requires { place + length s.now ≤ length out.old }
     ensures { Puts out.old out.new place s.now result }
 {
-    let mut i: usize = 0;
-    while i < s.len() {
-        out[place + i] = s[i];
-        i += 1;
-    }
-    place + i
-}
-
-// Whether b ends a line.
-fn ends_line(b: u8) -> bool
-    ensures { result ≡ ends b }
-{
-    match classify(b) {
-        Byte::Digit(_) => false,
-        Byte::LineEnd => true,
-        Byte::Other => false,
-    }
+    let next = place + s.len();
+    out[place..next].copy_from_slice(s);
+    next
 }
 
 // Where the first line end at or after `place` stands, or the length.
@@ -146,17 +115,14 @@ pub fn line_end(s: &[u8], place: usize) -> usize
     requires { place ≤ length s.now }
     ensures { result ≡ place + line_length (drop place s.now) }
 {
-    let mut i = place;
-    while i < s.len() {
-        if ends_line(s[i]) {
-            return i;
-        }
-        i += 1;
+    match s[place..].iter().position(|b| *b == b'\n') {
+        Some(n) => place + n,
+        None => s.len(),
     }
-    i
 }
 
 // What stands at `place`.
+#[tactic(auto, using(crate::proofs::Lines::sights))]
 pub fn next_line(s: &[u8], place: usize) -> Seen
     ensures { result ≡ seen place (lines_of (drop place s.now)) }
 {
@@ -170,30 +136,10 @@ pub fn next_line(s: &[u8], place: usize) -> Seen
     Seen::Torn
 }
 
-// Whether s begins with the name.
-fn starts(s: &[u8], name: &[u8]) -> bool
-    ensures { result ≡ starts_with name.now s.now }
-{
-    let mut i: usize = 0;
-    while i < name.len() {
-        if s.len() <= i {
-            return false;
-        }
-        if s[i] != name[i] {
-            return false;
-        }
-        i += 1;
-    }
-    true
-}
-
 // The number after the name in the line s.
+#[tactic(auto, using(crate::proofs::Lines::fields))]
 pub fn field(s: &[u8], name: &[u8]) -> Option<u32>
     ensures { result ≡ field_in name.now s.now }
 {
-    if starts(s, name) {
-        let k = name.len();
-        return read_number(&s[k..]);
-    }
-    None
+    read_number(s.strip_prefix(name)?)
 }
