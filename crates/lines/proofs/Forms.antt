@@ -21,8 +21,6 @@ use Rattle.sixteen.specs.declared.Call.{Call}
 use Rattle.lines.specs.Lines.{insert_name, remove_name, has_name, range_name, step_name, one_of, more}
 use Rattle.lines.specs.Lines.{call_line, Written}
 use Rattle.lines.specs.Lines.{comma_in, both, two_in, or_one, or_two, keyed, paired, start_in, line_in}
-use Rattle.lines.specs.declared.Two.{Two}
-use Rattle.lines.specs.declared.Line.{Line}
 
 -- ---- lines cut at a comma
 
@@ -42,33 +40,34 @@ comma_cut (b ∷ s) h = by (eqb b 44) refl (λ k. comma_cut s k) h
 
 -- ---- what a call's line must be
 
-two_only : (s : List ℕ) (a b : ℕ) → two_in s ≡ Two.Are a b → s ≡ digits a ++ (44 ∷ digits b)
+two_only : (s : List ℕ) (a b : ℕ) → two_in s ≡ Some (a, b) → s ≡ digits a ++ (44 ∷ digits b)
 unfolding two_in
 two_only s a b =
     by (ltb (comma_in s) (length s)) refl (number_in (take (comma_in s) s)) (number_in (drop (comma_in s + 1) s))
     refl refl
   where
     by : (t : Bool) → ltb (comma_in s) (length s) ≡ t → (n m : Option ℕ) → number_in (take (comma_in s) s) ≡ n →
-        number_in (drop (comma_in s + 1) s) ≡ m → cond t (both n m) Two.Not ≡ Two.Are a b →
+        number_in (drop (comma_in s + 1) s) ≡ m → cond t (both n m) None ≡ Some (a, b) →
         s ≡ digits a ++ (44 ∷ digits b)
     by true h (Some x) (Some y) ex ey e =
-        let ea : x ≡ a = cc in
-        let eb : y ≡ b = cc in
+        let same : ◌≡◌ {A = ℕ × ℕ} (x, y) (a, b) = cc in
+        let ea : x ≡ a = ap (λ (p : ℕ × ℕ). p.0) same in
+        let eb : y ≡ b = ap (λ (p : ℕ × ℕ). p.1) same in
         sym (comma_cut s (ltb-true _ _ h)) ∙
         rw ((number_only _ x ex).0, (number_only _ y ey).0, ea, eb)
     by true h (Some x) None ex ey e = impossible (cc)
     by true h None m ex ey e = impossible (cc)
     by false h n m ex ey e = impossible (cc)
 
-keyed_only : (head : List ℕ) (k : ℕ) (call : Call) → keyed head k ≡ Line.Is call →
+keyed_only : (head : List ℕ) (k : ℕ) (call : Call) → keyed head k ≡ Some call →
     head ++ (44 ∷ digits k) ≡ call_line call
 unfolding keyed more one_of
 keyed_only head k call = by (field_in remove_name head) (field_in has_name head) refl refl
   where
     by : (n m : Option ℕ) → field_in remove_name head ≡ n → field_in has_name head ≡ m →
-        or_one n (λ s. Line.Is (Call.Start s (Op.Remove k))) (or_one m (λ s. Line.Is (Call.Start s (Op.Has k)))
-        Line.Bad) ≡
-        Line.Is call → head ++ (44 ∷ digits k) ≡ call_line call
+        or_one n (λ s. Some (Call.Start s (Op.Remove k))) (or_one m (λ s. Some (Call.Start s (Op.Has k)))
+        None) ≡
+        Some call → head ++ (44 ∷ digits k) ≡ call_line call
     by (Some s) m er eh e =
         let is : Call.Start s (Op.Remove k) ≡ call = cc in
         rw (← is, (field_only remove_name head s er).0)
@@ -77,14 +76,14 @@ keyed_only head k call = by (field_in remove_name head) (field_in has_name head)
         rw (← is, (field_only has_name head s eh).0)
     by None None er eh e = impossible (cc)
 
-paired_only : (head : List ℕ) (a b : ℕ) (call : Call) → paired head a b ≡ Line.Is call →
+paired_only : (head : List ℕ) (a b : ℕ) (call : Call) → paired head a b ≡ Some call →
     head ++ (44 ∷ (digits a ++ (44 ∷ digits b))) ≡ call_line call
 unfolding paired more one_of
 paired_only head a b call = by (field_in insert_name head) (field_in range_name head) refl refl
   where
     by : (n m : Option ℕ) → field_in insert_name head ≡ n → field_in range_name head ≡ m →
-        or_one n (λ s. Line.Is (Call.Start s (Op.Insert a b)))
-        (or_one m (λ s. Line.Is (Call.Start s (Op.Range a b))) Line.Bad) ≡ Line.Is call →
+        or_one n (λ s. Some (Call.Start s (Op.Insert a b)))
+        (or_one m (λ s. Some (Call.Start s (Op.Range a b))) None) ≡ Some call →
         head ++ (44 ∷ (digits a ++ (44 ∷ digits b))) ≡ call_line call
     by (Some s) m ei er e =
         let is : Call.Start s (Op.Insert a b) ≡ call = cc in
@@ -94,32 +93,32 @@ paired_only head a b call = by (field_in insert_name head) (field_in range_name 
         rw (← is, (field_only range_name head s er).0)
     by None None ei er e = impossible (cc)
 
-start_only : (head tail : List ℕ) (call : Call) → start_in head tail ≡ Line.Is call →
+start_only : (head tail : List ℕ) (call : Call) → start_in head tail ≡ Some call →
     head ++ (44 ∷ tail) ≡ call_line call
 unfolding start_in
 start_only head tail call = by (number_in tail) (two_in tail) refl refl
   where
-    by : (n : Option ℕ) (t : Two) → number_in tail ≡ n → two_in tail ≡ t →
-        or_one n (keyed head) (or_two t (paired head) Line.Bad) ≡ Line.Is call → head ++ (44 ∷ tail) ≡ call_line call
+    by : (n : Option ℕ) (t : Option (ℕ × ℕ)) → number_in tail ≡ n → two_in tail ≡ t →
+        or_one n (keyed head) (or_two t (paired head) None) ≡ Some call → head ++ (44 ∷ tail) ≡ call_line call
     by (Some k) t en et e = rw (number_only tail k en).0 (keyed_only head k call e)
-    by None (Two.Are a b) en et e = rw (two_only tail a b et) (paired_only head a b call e)
-    by None Two.Not en et e = impossible (cc)
+    by None (Some (a, b)) en et e = rw (two_only tail a b et) (paired_only head a b call e)
+    by None None en et e = impossible (cc)
 
 step_only : (l : List ℕ) (call : Call) (n : Option ℕ) → field_in step_name l ≡ n →
-    or_one n (λ s. Line.Is (Call.Step s)) Line.Bad ≡ Line.Is call → l ≡ call_line call
+    or_one n (λ s. Some (Call.Step s)) None ≡ Some call → l ≡ call_line call
 unfolding more one_of
 step_only l call (Some s) f e =
     let is : Call.Step s ≡ call = cc in
     rw (← is, (field_only step_name l s f).0)
 step_only l call None f e = impossible (cc)
 
-pub call_only : (l : List ℕ) (call : Call) → line_in l ≡ Line.Is call → l ≡ call_line call
+pub call_only : (l : List ℕ) (call : Call) → line_in l ≡ Some call → l ≡ call_line call
 unfolding line_in
 call_only l call = by (ltb (comma_in l) (length l)) refl
   where
     by : (t : Bool) → ltb (comma_in l) (length l) ≡ t →
         cond t (start_in (take (comma_in l) l) (drop (comma_in l + 1) l))
-        (or_one (field_in step_name l) (λ s. Line.Is (Call.Step s)) Line.Bad) ≡ Line.Is call → l ≡ call_line call
+        (or_one (field_in step_name l) (λ s. Some (Call.Step s)) None) ≡ Some call → l ≡ call_line call
     by true h e = sym (comma_cut l (ltb-true _ _ h)) ∙ start_only _ _ call e
     by false h e = step_only l call (field_in step_name l) refl e
 
@@ -189,7 +188,7 @@ module _ (head tail : List ℕ) (h : comma_in head ≡ length head) where
   cut_back =
       rw (comma_at, lt-ltb _ _ comma_in_lem, add-one, take_back head (44 ∷ tail), drop_back head tail 44)
 
-two_back : (a b : ℕ) → a ≤ largest → b ≤ largest → two_in (digits a ++ (44 ∷ digits b)) ≡ Two.Are a b
+two_back : (a b : ℕ) → a ≤ largest → b ≤ largest → two_in (digits a ++ (44 ∷ digits b)) ≡ Some (a, b)
 unfolding two_in
 two_back a b la lb =
     let h = digits_no_comma a in
@@ -262,31 +261,31 @@ other_range : (s : ℕ) → field_in insert_name (range_name ++ digits s) ≡ No
 unfolding field_in starts_with
 other_range s = refl
 
-remove_back : (s k : ℕ) → s ≤ largest → keyed (remove_name ++ digits s) k ≡ Line.Is (Call.Start s (Op.Remove k))
+remove_back : (s k : ℕ) → s ≤ largest → keyed (remove_name ++ digits s) k ≡ Some (Call.Start s (Op.Remove k))
 unfolding keyed
 remove_back s k ls = rw (field_back remove_name s ls)
 
-has_back : (s k : ℕ) → s ≤ largest → keyed (has_name ++ digits s) k ≡ Line.Is (Call.Start s (Op.Has k))
+has_back : (s k : ℕ) → s ≤ largest → keyed (has_name ++ digits s) k ≡ Some (Call.Start s (Op.Has k))
 unfolding keyed
 has_back s k ls = rw (other_has s, field_back has_name s ls)
 
 insert_back : (s a b : ℕ) → s ≤ largest →
-    paired (insert_name ++ digits s) a b ≡ Line.Is (Call.Start s (Op.Insert a b))
+    paired (insert_name ++ digits s) a b ≡ Some (Call.Start s (Op.Insert a b))
 unfolding paired
 insert_back s a b ls = rw (field_back insert_name s ls)
 
-range_back : (s a b : ℕ) → s ≤ largest → paired (range_name ++ digits s) a b ≡ Line.Is (Call.Start s (Op.Range a b))
+range_back : (s a b : ℕ) → s ≤ largest → paired (range_name ++ digits s) a b ≡ Some (Call.Start s (Op.Range a b))
 unfolding paired
 range_back s a b ls = rw (other_range s, field_back range_name s ls)
 
-step_back : (s : ℕ) → s ≤ largest → line_in (step_name ++ digits s) ≡ Line.Is (Call.Step s)
+step_back : (s : ℕ) → s ≤ largest → line_in (step_name ++ digits s) ≡ Some (Call.Step s)
 unfolding line_in
 step_back s ls =
     let none : length (step_name ++ digits s) ≤ comma_in (step_name ++ digits s) =
     omega (arith, head_no_comma step_name s no_step) in
     rw (le-ltb _ _ none, field_back step_name s ls)
 
-pub call_back : (call : Call) → Written call → line_in (call_line call) ≡ Line.Is call
+pub call_back : (call : Call) → Written call → line_in (call_line call) ≡ Some call
 unfolding more one_of
 call_back (Call.Start s Op.None) w = absurd w
 call_back (Call.Start s (Op.Insert a b)) w =
@@ -299,14 +298,14 @@ call_back (Call.Step s) w = step_back s w
 
 -- ---- both together: a bad line is written as no call
 
-pub bad_line_is_no_call : (l : List ℕ) → line_in l ≡ Line.Bad → (call : Call) → Written call → l ≡ call_line call → ⊥
+pub bad_line_is_no_call : (l : List ℕ) → line_in l ≡ None → (call : Call) → Written call → l ≡ call_line call → ⊥
 bad_line_is_no_call l bad call w e =
-    let is : Line.Bad ≡ Line.Is call = sym bad ∙ ap line_in e ∙ call_back call w in
+    let is : None ≡ Some call = sym bad ∙ ap line_in e ∙ call_back call w in
     impossible (cc)
 
-pub no_call_is_bad : (l : List ℕ) → ((call : Call) → l ≡ call_line call → ⊥) → line_in l ≡ Line.Bad
+pub no_call_is_bad : (l : List ℕ) → ((call : Call) → l ≡ call_line call → ⊥) → line_in l ≡ None
 no_call_is_bad l none = by (line_in l) refl
   where
-    by : (r : Line) → line_in l ≡ r → r ≡ Line.Bad
-    by (Line.Is call) e = absurd (none call (call_only l call e))
-    by Line.Bad e = refl
+    by : (r : Option Call) → line_in l ≡ r → r ≡ None
+    by (Some call) e = absurd (none call (call_only l call e))
+    by None e = refl

@@ -3,14 +3,15 @@
 use Prim.Native.Nat.{ℕ}
 use mathlib.Core.Path.{◌≡◌}
 use mathlib.Core.List.{List}
+use Rattle.std.specs.Prelude.{Option}
 use Rattle.text.specs.Text.{Puts}
+use Rattle.sixteen.specs.declared.Call.{Call}
 use Rattle.terms.specs.Terms.{refusal_number}
 use Rattle.terms.specs.declared.Answer.{Answer}
 use Rattle.terms.specs.declared.Refusal.{Refusal}
 use Rattle.lines.specs.Lines.{line_in, answer_line, refused_line}
-use Rattle.lines.specs.declared.Line.{Line}
 
-pub read_line_one : (l : List ℕ) (r₁ r₂ : Line) → r₁ ≡ line_in l → r₂ ≡ line_in l → r₁ ≡ r₂
+pub read_line_one : (l : List ℕ) (r₁ r₂ : Option Call) → r₁ ≡ line_in l → r₂ ≡ line_in l → r₁ ≡ r₂
 read_line_one l r₁ r₂ p q = cc
 
 pub refusal_number_one : (why : Refusal) (r₁ r₂ : ℕ) → r₁ ≡ refusal_number why → r₂ ≡ refusal_number why → r₁ ≡ r₂

@@ -22,8 +22,6 @@ use Rattle.sixteen.specs.declared.Call.{Call}
 use Rattle.lines.specs.Lines.{insert_name, remove_name, has_name, range_name, step_name, name_bytes}
 use Rattle.lines.specs.Lines.{comma_in, two_in, or_one, or_two, keyed, paired, start_in, line_in}
 use Rattle.lines.specs.Lines.{comma, line_end, one_of, more, words_of, answer_line, bad_line, too_long, refused_line}
-use Rattle.lines.specs.declared.Two.{Two}
-use Rattle.lines.specs.declared.Line.{Line}
 
 -- ---- names and numbers read
 
@@ -39,54 +37,54 @@ field_long name s n = by (starts_with name s) refl
     by : (t : Bool) → starts_with name s ≡ t → cond t (number_in (drop (length name) s)) None ≡ Some n →
         length name + 1 ≤ length s
     by true e k =
-        omega (arith, starts_length name s true (sym e) refl, number_long _ n k, length-drop (length name) s)
+        omega (arith, starts_length name s (sym e), number_long _ n k, length-drop (length name) s)
     by false e k = impossible (cc)
 
 -- ---- lines read: a head of 5 bytes or more and a comma, or `step=` and a digit
 
-either_long : (a b head : List ℕ) (f g : ℕ → Line) (call : Call) → 4 ≤ length a → 4 ≤ length b →
-    or_one (field_in a head) f (or_one (field_in b head) g Line.Bad) ≡ Line.Is call → 5 ≤ length head
+either_long : (a b head : List ℕ) (f g : ℕ → Option Call) (call : Call) → 4 ≤ length a → 4 ≤ length b →
+    or_one (field_in a head) f (or_one (field_in b head) g None) ≡ Some call → 5 ≤ length head
 either_long a b head f g call la lb = by (field_in a head) (field_in b head) refl refl
   where
     by : (n m : Option ℕ) → field_in a head ≡ n → field_in b head ≡ m →
-        or_one n f (or_one m g Line.Bad) ≡ Line.Is call → 5 ≤ length head
+        or_one n f (or_one m g None) ≡ Some call → 5 ≤ length head
     by (Some s) m ea eb e = omega (arith, field_long a head s ea)
     by None (Some s) ea eb e = omega (arith, field_long b head s eb)
     by None None ea eb e = impossible (cc)
 
-keyed_long : (head : List ℕ) (k : ℕ) (call : Call) → keyed head k ≡ Line.Is call → 5 ≤ length head
+keyed_long : (head : List ℕ) (k : ℕ) (call : Call) → keyed head k ≡ Some call → 5 ≤ length head
 unfolding keyed
 keyed_long head k call e = either_long remove_name has_name head _ _ call (omega arith) (omega arith) e
 
-paired_long : (head : List ℕ) (a b : ℕ) (call : Call) → paired head a b ≡ Line.Is call → 5 ≤ length head
+paired_long : (head : List ℕ) (a b : ℕ) (call : Call) → paired head a b ≡ Some call → 5 ≤ length head
 unfolding paired
 paired_long head a b call e = either_long insert_name range_name head _ _ call (omega arith) (omega arith) e
 
-start_long : (head tail : List ℕ) (call : Call) → start_in head tail ≡ Line.Is call → 5 ≤ length head
+start_long : (head tail : List ℕ) (call : Call) → start_in head tail ≡ Some call → 5 ≤ length head
 unfolding start_in
 start_long head tail call = by (number_in tail) (two_in tail)
   where
-    by : (n : Option ℕ) (t : Two) → or_one n (keyed head) (or_two t (paired head) Line.Bad) ≡ Line.Is call
+    by : (n : Option ℕ) (t : Option (ℕ × ℕ)) → or_one n (keyed head) (or_two t (paired head) None) ≡ Some call
         → 5 ≤ length head
     by (Some k) t e = keyed_long head k call e
-    by None (Two.Are a b) e = paired_long head a b call e
-    by None Two.Not e = impossible (cc)
+    by None (Some (a, b)) e = paired_long head a b call e
+    by None None e = impossible (cc)
 
 step_long : (l : List ℕ) (call : Call) (n : Option ℕ) → field_in step_name l ≡ n →
-    or_one n (λ s. Line.Is (Call.Step s)) Line.Bad ≡ Line.Is call → 6 ≤ length l
+    or_one n (λ s. Some (Call.Step s)) None ≡ Some call → 6 ≤ length l
 step_long l call (Some s) f e = omega (arith, field_long step_name l s f)
 step_long l call None f e = impossible (cc)
 
 cut_long : (l : List ℕ) (c : ℕ) → c < length l → 5 ≤ length (take c l) → 6 ≤ length l
 cut_long l c h k = omega (arith, length-take-le c l (omega arith))
 
-pub call_long : (l : List ℕ) (call : Call) → line_in l ≡ Line.Is call → 6 ≤ length l
+pub call_long : (l : List ℕ) (call : Call) → line_in l ≡ Some call → 6 ≤ length l
 unfolding line_in
 call_long l call = by (ltb (comma_in l) (length l)) refl
   where
     by : (t : Bool) → ltb (comma_in l) (length l) ≡ t →
         cond t (start_in (take (comma_in l) l) (drop (comma_in l + 1) l))
-        (or_one (field_in step_name l) (λ s. Line.Is (Call.Step s)) Line.Bad) ≡ Line.Is call → 6 ≤ length l
+        (or_one (field_in step_name l) (λ s. Some (Call.Step s)) None) ≡ Some call → 6 ≤ length l
     by true h e = cut_long l (comma_in l) (ltb-true _ _ h) (start_long _ _ call e)
     by false h e = step_long l call (field_in step_name l) refl e
 
@@ -132,6 +130,6 @@ too_long_length = refl
 
 -- ---- an answer beside its line
 
-pub answer_room : (l : List ℕ) (call : Call) (who : ℕ) (a : Answer) → line_in l ≡ Line.Is call →
+pub answer_room : (l : List ℕ) (call : Call) (who : ℕ) (a : Answer) → line_in l ≡ Some call →
     length (answer_line who a) ≤ 11 * (length l + 1)
 answer_room l call who a e = omega (arith, call_long l call e, answer_length who a)

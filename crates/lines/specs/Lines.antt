@@ -12,8 +12,6 @@ use Rattle.terms.specs.Terms.{name_of, values_of}
 use Rattle.terms.specs.declared.Op.{Op}
 use Rattle.terms.specs.declared.Answer.{Answer}
 use Rattle.sixteen.specs.declared.Call.{Call}
-use Rattle.lines.specs.declared.Two.{Two}
-use Rattle.lines.specs.declared.Line.{Line}
 
 -- ---- names, each with its `=`
 abbrev pub insert_name : List ℕ
@@ -51,48 +49,48 @@ unfoldable pub comma_in : List ℕ → ℕ
 comma_in [] = 0
 comma_in (b ∷ s) = cond (eqb b 44) 0 (suc (comma_in s))
 
-abbrev pub both : Option ℕ → Option ℕ → Two
-both (Some a) (Some b) = Two.Are a b
-both (Some a) None = Two.Not
-both None n = Two.Not
+abbrev pub both : Option ℕ → Option ℕ → Option (ℕ × ℕ)
+both (Some a) (Some b) = Some (a, b)
+both (Some a) None = None
+both None n = None
 
-unfoldable pub two_in : List ℕ → Two
+unfoldable pub two_in : List ℕ → Option (ℕ × ℕ)
 two_in s =
     cond (ltb (comma_in s) (length s)) (both (number_in (take (comma_in s) s)) (number_in (drop (comma_in s + 1) s)))
-    Two.Not
+    None
 
 -- ---- a line in, without its byte 10
 
-abbrev pub or_one : Option ℕ → (ℕ → Line) → Line → Line
+abbrev pub or_one : Option ℕ → (ℕ → Option Call) → Option Call → Option Call
 or_one (Some a) f other = f a
 or_one None f other = other
 
-abbrev pub or_two : Two → (ℕ → ℕ → Line) → Line → Line
-or_two (Two.Are a b) f other = f a b
-or_two Two.Not f other = other
+abbrev pub or_two : Option (ℕ × ℕ) → (ℕ → ℕ → Option Call) → Option Call → Option Call
+or_two (Some p) f other = f p.0 p.1
+or_two None f other = other
 
 -- `remove=S,K` and `has=S,K`: `head` is what comes before the first comma
-unfoldable pub keyed : List ℕ → ℕ → Line
+unfoldable pub keyed : List ℕ → ℕ → Option Call
 keyed head k =
-    or_one (field_in remove_name head) (λ s. Line.Is (Call.Start s (Op.Remove k)))
-    (or_one (field_in has_name head) (λ s. Line.Is (Call.Start s (Op.Has k))) Line.Bad)
+    or_one (field_in remove_name head) (λ s. Some (Call.Start s (Op.Remove k)))
+    (or_one (field_in has_name head) (λ s. Some (Call.Start s (Op.Has k))) None)
 
 -- `insert=S,K,V` and `range=S,L,H`
-unfoldable pub paired : List ℕ → ℕ → ℕ → Line
+unfoldable pub paired : List ℕ → ℕ → ℕ → Option Call
 paired head a b =
-    or_one (field_in insert_name head) (λ s. Line.Is (Call.Start s (Op.Insert a b)))
-    (or_one (field_in range_name head) (λ s. Line.Is (Call.Start s (Op.Range a b))) Line.Bad)
+    or_one (field_in insert_name head) (λ s. Some (Call.Start s (Op.Insert a b)))
+    (or_one (field_in range_name head) (λ s. Some (Call.Start s (Op.Range a b))) None)
 
 -- a line cut at its first comma
-unfoldable pub start_in : List ℕ → List ℕ → Line
-start_in head tail = or_one (number_in tail) (keyed head) (or_two (two_in tail) (paired head) Line.Bad)
+unfoldable pub start_in : List ℕ → List ℕ → Option Call
+start_in head tail = or_one (number_in tail) (keyed head) (or_two (two_in tail) (paired head) None)
 
 -- `step=S` has no comma
-unfoldable pub line_in : List ℕ → Line
+unfoldable pub line_in : List ℕ → Option Call
 line_in l =
     cond (ltb (comma_in l) (length l))
     (start_in (take (comma_in l) l) (drop (comma_in l + 1) l))
-    (or_one (field_in step_name l) (λ s. Line.Is (Call.Step s)) Line.Bad)
+    (or_one (field_in step_name l) (λ s. Some (Call.Step s)) None)
 
 -- ---- a line out
 

@@ -1,144 +1,86 @@
 // The runner's lines (document 01, "The runner"): reading one as a call, and printing the line that answers it.
-// In order: what a line is; commas; reading; a refusal's number; a name and numbers; printing.
+// In order: commas; reading; a name and numbers; printing.
 // Numbers and names are read and written by crate text alone. `print` and `print_refusal` ask for room that their
 // caller has checked.
 // Not here: what a call does, and the run over all lines (crate running). Assumes nothing.
 #![tactic(auto)]
 
-ghost use Rattle.std.specs.Prelude.{◌≡◌, ◌∷◌, [], ◌+◌, ◌≤◌, length};
+ghost use Rattle.std.specs.Prelude.{◌≡◌, ◌+◌, ◌<◌, ◌≤◌, length, MatchOption};
 ghost use Rattle.text.specs.Text.{Puts};
-ghost use Rattle.terms.specs.Terms.{refusal_number};
 ghost use Rattle.lines.specs.Lines.{comma_in, two_in, keyed, paired, start_in, line_in};
 ghost use Rattle.lines.specs.Lines.{one_of, more, words_of, answer_line, refused_line};
 
 use sixteen::Call;
-use terms::{Answer, Op, Refusal};
+use terms::{Answer, Op};
+
+// Where the first comma stands, if there is one.
+fn comma(s: &[u8]) -> Option<usize>
+    ensures { MatchOption result (length s.now ≤ comma_in s.now) (λ c. (c ≡ comma_in s.now) × (c < length s.now)) }
+{
+    s.iter().position(|b| *b == b',')
+}
 
 // Two numbers with a comma between them.
-#[derive(Clone, Copy)]
-pub enum Two {
-    Are(u32, u32),
-    Not,
-}
-
-// What a line without its byte 10 is.
-#[derive(Clone, Copy)]
-pub enum Line {
-    Is(Call),
-    Bad,
-}
-
-// Where the first comma stands, or the length.
-fn comma(s: &[u8]) -> usize
-    ensures { result ≡ comma_in s.now }
-{
-    let mut i: usize = 0;
-    while i < s.len() {
-        if s[i] == 44 {
-            return i;
-        }
-        i += 1;
-    }
-    i
-}
-
-fn two_numbers(s: &[u8]) -> Two
+#[tactic(auto, using(crate::proofs::Read::twos))]
+fn two_numbers(s: &[u8]) -> Option<(u32, u32)>
     ensures { result ≡ two_in s.now }
 {
-    let c = comma(s);
-    if c < s.len() {
-        let d = c + 1;
-        match text::read_number(&s[..c]) {
-            Some(a) => match text::read_number(&s[d..]) {
-                Some(b) => Two::Are(a, b),
-                None => Two::Not,
-            },
-            None => Two::Not,
-        }
-    } else {
-        Two::Not
-    }
+    let c = comma(s)?;
+    let a = text::read_number(&s[..c])?;
+    let b = text::read_number(&s[c + 1..])?;
+    Some((a, b))
 }
 
 // `remove=S` or `has=S`, where the rest of the line was the number k.
-fn with_key(head: &[u8], k: u32) -> Line
+#[tactic(auto, using(crate::proofs::Read::heads))]
+fn with_key(head: &[u8], k: u32) -> Option<Call>
     ensures { result ≡ keyed head.now k }
 {
-    match text::field(head, b"remove=") {
-        Some(s) => {
-            return Line::Is(Call::Start(s, Op::Remove(k)));
-        }
-        None => {}
+    if let Some(s) = text::field(head, b"remove=") {
+        return Some(Call::Start(s, Op::Remove(k)));
     }
-    match text::field(head, b"has=") {
-        Some(s) => Line::Is(Call::Start(s, Op::Has(k))),
-        None => Line::Bad,
-    }
+    let s = text::field(head, b"has=")?;
+    Some(Call::Start(s, Op::Has(k)))
 }
 
 // `insert=S` or `range=S`, where the rest of the line was two numbers.
-fn with_two(head: &[u8], a: u32, b: u32) -> Line
+#[tactic(auto, using(crate::proofs::Read::heads))]
+fn with_two(head: &[u8], a: u32, b: u32) -> Option<Call>
     ensures { result ≡ paired head.now a b }
 {
-    match text::field(head, b"insert=") {
-        Some(s) => {
-            return Line::Is(Call::Start(s, Op::Insert(a, b)));
-        }
-        None => {}
+    if let Some(s) = text::field(head, b"insert=") {
+        return Some(Call::Start(s, Op::Insert(a, b)));
     }
-    match text::field(head, b"range=") {
-        Some(s) => Line::Is(Call::Start(s, Op::Range(a, b))),
-        None => Line::Bad,
-    }
+    let s = text::field(head, b"range=")?;
+    Some(Call::Start(s, Op::Range(a, b)))
 }
 
 // A line cut at its first comma.
-fn read_start(head: &[u8], tail: &[u8]) -> Line
+#[tactic(auto, using(crate::proofs::Read::starts))]
+fn read_start(head: &[u8], tail: &[u8]) -> Option<Call>
     ensures { result ≡ start_in head.now tail.now }
 {
-    match text::read_number(tail) {
-        Some(k) => {
-            return with_key(head, k);
-        }
-        None => {}
+    if let Some(k) = text::read_number(tail) {
+        return with_key(head, k);
     }
-    match two_numbers(tail) {
-        Two::Are(a, b) => with_two(head, a, b),
-        Two::Not => Line::Bad,
-    }
+    let (a, b) = two_numbers(tail)?;
+    with_two(head, a, b)
 }
 
-// A line without its byte 10.
-pub fn read_line(l: &[u8]) -> Line
+// A line without its byte 10, if it is a call.
+#[tactic(auto, using(crate::proofs::Read::lines))]
+pub fn read_line(l: &[u8]) -> Option<Call>
     ensures { result ≡ line_in l.now }
 {
-    let c = comma(l);
-    if c < l.len() {
-        let d = c + 1;
-        return read_start(&l[..c], &l[d..]);
+    if let Some(c) = comma(l) {
+        return read_start(&l[..c], &l[c + 1..]);
     }
-    match text::field(l, b"step=") {
-        Some(s) => Line::Is(Call::Step(s)),
-        None => Line::Bad,
-    }
+    let s = text::field(l, b"step=")?;
+    Some(Call::Step(s))
 }
 
-// Document 01's number of a refusal.
-pub fn refusal_number(why: Refusal) -> u32
-    ensures { result ≡ refusal_number why }
-{
-    match why {
-        Refusal::BadSession => 1,
-        Refusal::Busy => 2,
-        Refusal::BadKey => 3,
-        Refusal::BadRange => 4,
-        Refusal::Idle => 5,
-        Refusal::Full => 6,
-        Refusal::BadTable => 7,
-        Refusal::Damaged => 8,
-    }
-}
-
+// A name, or a comma, and a number.
+#[tactic(auto, using(text::proofs::Write::two_parts), unfolding(crate::specs::Lines::one_of))]
 fn put_one(out: &mut [u8], place: usize, name: &[u8], a: u32) -> usize
     requires { place + length (one_of name.now a) ≤ length out.old }
     ensures { Puts out.old out.new place (one_of name.now a) result }
@@ -147,23 +89,20 @@ fn put_one(out: &mut [u8], place: usize, name: &[u8], a: u32) -> usize
     text::put_number(out, p, a as u64)
 }
 
-fn put_two(out: &mut [u8], place: usize, name: &[u8], a: u32, b: u32) -> usize
-    requires { place + length (more name.now a (b ∷ [])) ≤ length out.old }
-    ensures { Puts out.old out.new place (more name.now a (b ∷ [])) result }
+// A name and numbers with commas between them.
+fn put_words(out: &mut [u8], place: usize, name: &[u8], first: u32, rest: &[u32]) -> usize
+    requires { place + length (more name.now first rest.now) ≤ length out.old }
+    ensures { Puts out.old out.new place (more name.now first rest.now) result }
 {
-    let p = put_one(out, place, name, a);
-    put_one(out, p, b",", b)
-}
-
-fn put_three(out: &mut [u8], place: usize, name: &[u8], a: u32, b: u32, c: u32) -> usize
-    requires { place + length (more name.now a (b ∷ c ∷ [])) ≤ length out.old }
-    ensures { Puts out.old out.new place (more name.now a (b ∷ c ∷ [])) result }
-{
-    let p = put_one(out, place, name, a);
-    put_two(out, p, b",", b, c)
+    let mut at = put_one(out, place, name, first);
+    for n in rest {
+        at = put_one(out, at, b",", *n);
+    }
+    at
 }
 
 // The answer's name and numbers; a refusal has its number alone.
+#[tactic(auto, using(crate::proofs::Words::words))]
 fn print_words(out: &mut [u8], place: usize, who: u32, a: Answer) -> usize
     requires { place + length (words_of who a) ≤ length out.old }
     ensures { Puts out.old out.new place (words_of who a) result }
@@ -172,17 +111,18 @@ fn print_words(out: &mut [u8], place: usize, who: u32, a: Answer) -> usize
         Answer::Started => put_one(out, place, b"started=", who),
         Answer::Working => put_one(out, place, b"working=", who),
         Answer::Waiting => put_one(out, place, b"waiting=", who),
-        Answer::Key(k, v) => put_three(out, place, b"key=", who, k, v),
-        Answer::Inserted(n) => put_two(out, place, b"inserted=", who, n),
-        Answer::Removed(n) => put_two(out, place, b"removed=", who, n),
+        Answer::Key(k, v) => put_words(out, place, b"key=", who, &[k, v]),
+        Answer::Inserted(n) => put_words(out, place, b"inserted=", who, &[n]),
+        Answer::Removed(n) => put_words(out, place, b"removed=", who, &[n]),
         Answer::Present => put_one(out, place, b"present=", who),
         Answer::Absent => put_one(out, place, b"absent=", who),
-        Answer::End(t, c) => put_three(out, place, b"end=", who, t, c),
-        Answer::Refused(why) => put_one(out, place, b"refused=", refusal_number(why)),
+        Answer::End(t, c) => put_words(out, place, b"end=", who, &[t, c]),
+        Answer::Refused(why) => put_one(out, place, b"refused=", u32::from(why)),
     }
 }
 
 // One line out.
+#[tactic(auto, using(text::proofs::Write::two_parts), unfolding(crate::specs::Lines::answer_line))]
 pub fn print(out: &mut [u8], place: usize, who: u32, a: Answer) -> usize
     requires { place + length (answer_line who a) ≤ length out.old }
     ensures { Puts out.old out.new place (answer_line who a) result }
@@ -192,6 +132,7 @@ pub fn print(out: &mut [u8], place: usize, who: u32, a: Answer) -> usize
 }
 
 // The line for a refusal that is the runner's own: BadLine and TooLong.
+#[tactic(auto, using(text::proofs::Write::two_parts), unfolding(crate::specs::Lines::refused_line))]
 pub fn print_refusal(out: &mut [u8], place: usize, number: u32) -> usize
     requires { place + length (refused_line number) ≤ length out.old }
     ensures { Puts out.old out.new place (refused_line number) result }

@@ -19,7 +19,8 @@ use Rattle.register.specs.declared.Opened.{Opened}
 use Rattle.register.specs.Register.{fits, opened, fresh_of, fresh_nodes, fresh_entries, fresh_counters}
 use Rattle.sixteen.specs.declared.Register.{Register}
 use Rattle.sixteen.specs.Sixteen.{Left, served, serve_of, fresh_register}
-use Rattle.lines.specs.declared.Line.{Line}
+use Rattle.std.specs.Prelude.{Option, Some, None}
+use Rattle.sixteen.specs.declared.Call.{Call}
 use Rattle.lines.specs.Lines.{line_in, answer_line, refused_line, bad_line, too_long}
 use Rattle.lines.proofs.Room.{bad_line_length, too_long_length, answer_room}
 use Rattle.running.specs.Running.{caller_of, Ran, ran, first, printed, answered, on_line, lines_run}
@@ -61,11 +62,11 @@ first_length : (x : List ℕ) (r : Ran) → length (printed (first x r)) ≡ len
 first_length x (ran ns es y) = length-append x y
 
 -- one line, by what comes after it
-line_room : (l : List ℕ) (r : Line) → line_in l ≡ r → (z : Size) (ns es : List ℕ) (g : Register) (n : ℕ)
+line_room : (l : List ℕ) (r : Option Call) → line_in l ≡ r → (z : Size) (ns es : List ℕ) (g : Register) (n : ℕ)
     (next : List ℕ → List ℕ → Register → Ran) →
     ((ns es : List ℕ) (g : Register) → length (printed (next ns es g)) ≤ n) →
     length (printed (on_line r z ns es g next)) ≤ 11 * (length l + 1) + n
-line_room l (Line.Is call) e z ns es g n next ih = by (serve_of z ns es g call)
+line_room l (Some call) e z ns es g n next ih = by (serve_of z ns es g call)
   where
     by : (d : Left) → length (printed (answered (caller_of call) d next)) ≤ 11 * (length l + 1) + n
     by (served ns' es' r) =
@@ -75,7 +76,7 @@ line_room l (Line.Is call) e z ns es g n next ih = by (serve_of z ns es g call)
           answer_room l call (caller_of call) r.answer e,
           ih ns' es' r.register,
         )
-line_room l Line.Bad e z ns es g n next ih =
+line_room l None e z ns es g n next ih =
     omega (arith, first_length (refused_line bad_line) (next ns es g), bad_line_length, ih ns es g)
 
 lines_room : (ls : Lines) (z : Size) (ns es : List ℕ) (g : Register) →

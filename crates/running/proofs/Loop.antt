@@ -18,7 +18,7 @@ use Rattle.steps.specs.Steps.{Done, done, idle}
 use Rattle.sixteen.specs.declared.Call.{Call}
 use Rattle.sixteen.specs.declared.Register.{Register}
 use Rattle.sixteen.specs.Sixteen.{fresh_register}
-use Rattle.lines.specs.declared.Line.{Line}
+use Rattle.std.specs.Prelude.{Option, Some, None}
 use Rattle.lines.specs.Lines.{answer_line, refused_line, bad_line}
 use Rattle.lines.proofs.Room.{bad_line_length, answer_length}
 use Rattle.running.specs.Running.{caller_of, Ran, ran, first, on_line, lines_run, Wrote, wrote, write_at, room_for}
@@ -50,7 +50,7 @@ module _ (all : Wrote) (z : Size) (s ns es out : List ℕ) (c : Counters) (ss : 
   unfolding lines_of lines_run write_at
   run_all h = rw (rest.same, drop_of_length-le s h, add-zero)
 
-  module _ (inside : p < length s) (l : Line × ℕ) (read : l ≡ read_at s p) where
+  module _ (inside : p < length s) (l : Option Call × ℕ) (read : l ≡ read_at s p) where
     g : Register
     g = record { counters = c; sessions = ss }
 
@@ -58,14 +58,14 @@ module _ (all : Wrote) (z : Size) (s ns es out : List ℕ) (c : Counters) (ss : 
     unfolding g
     opened = rw (rest.same, (begun_at s p inside l read).runs z ns es g)
 
-    pub run_bad : (out' : List ℕ) (r : ℕ) → l.0 ≡ Line.Bad → Puts out out' a (refused_line bad_line) r →
+    pub run_bad : (out' : List ℕ) (r : ℕ) → l.0 ≡ None → Puts out out' a (refused_line bad_line) r →
         Rest all z s ns es out' c ss l.1 r
     unfolding g
     run_bad out' r bad puts =
         let after = lines_run (lines_of (drop l.1 s)) z ns es g in
         record { same = opened ∙ rw (bad, write_first out (refused_line bad_line) a after, ← puts.1, ← puts.0) }
 
-    module _ (call : Call) (is : l.0 ≡ Line.Is call) (i : ℕ) (at_slot : i ≡ slot_of call) (x : Session)
+    module _ (call : Call) (is : l.0 ≡ Some call) (i : ℕ) (at_slot : i ≡ slot_of call) (x : Session)
         (taken : x ≡ get_or ss i idle) where
       -- by what the call leaves
       turn_on : (d : Done) → d ≡ call_of z ns es c call x →
@@ -108,14 +108,14 @@ pub next_bad : (p q a r : ℕ) (out out' : List ℕ) → a ≤ 11 * p → p < q 
     r ≤ 11 * q
 next_bad p q a r out out' b h puts = omega (arith, puts.0, bad_line_length)
 
-module _ (s : List ℕ) (p a : ℕ) (inside : p < length s) (l : Line × ℕ) (read : l ≡ read_at s p) where
+module _ (s : List ℕ) (p a : ℕ) (inside : p < length s) (l : Option Call × ℕ) (read : l ≡ read_at s p) where
   pub read_from : p < l.1
   read_from = (begun_at s p inside l read).from
 
   pub read_within : l.1 ≤ length s
   read_within = (begun_at s p inside l read).within
 
-  module _ (bound : a ≤ 11 * p) (call : Call) (is : l.0 ≡ Line.Is call) where
+  module _ (bound : a ≤ 11 * p) (call : Call) (is : l.0 ≡ Some call) where
     six : a + 67 ≤ 11 * l.1
     six = let b = begun_at s p inside l read in omega (arith, b.long call is)
 

@@ -15,7 +15,7 @@ use Rattle.text.proofs.Lines.{line_length_le, lines_cut, lines_torn}
 use Rattle.terms.specs.declared.Size.{Size}
 use Rattle.sixteen.specs.declared.Call.{Call}
 use Rattle.sixteen.specs.declared.Register.{Register}
-use Rattle.lines.specs.declared.Line.{Line}
+use Rattle.std.specs.Prelude.{Option, Some, None}
 use Rattle.lines.specs.Lines.{line_in}
 use Rattle.lines.proofs.Room.{call_long}
 use Rattle.running.specs.Running.{on_line, lines_run}
@@ -24,12 +24,12 @@ use Rattle.running.specs.OneLine.{read_at}
 -- ---- the ways through the code
 
 module _ (s : List ℕ) (p e : ℕ) (end : e ≡ p + line_length (drop p s)) where
-  pub read_whole : (l : Line) → l ≡ line_in (take (e - p) (drop p s)) → e < length s →
+  pub read_whole : (l : Option Call) → l ≡ line_in (take (e - p) (drop p s)) → e < length s →
       (l, e + 1) ≡ read_at s p
   unfolding read_at
   read_whole l read h = rw (← end, lt-ltb e (length s) h, read)
 
-  pub read_torn : length s ≤ e → (Line.Bad, e) ≡ read_at s p
+  pub read_torn : length s ≤ e → (None, e) ≡ read_at s p
   unfolding read_at
   read_torn h = rw (← end, le-ltb e (length s) h)
 
@@ -43,10 +43,10 @@ pub ruleset reads = (read_whole, read_torn, end_from, end_upto)
 
 -- ---- the line and what comes after it; a call has 6 bytes and byte 10 at least
 
-pub record Begun (s : List ℕ) (p : ℕ) (r : Line × ℕ) : Type 1 where
+pub record Begun (s : List ℕ) (p : ℕ) (r : Option Call × ℕ) : Type 1 where
   pub from : p < r.1
   pub within : r.1 ≤ length s
-  pub long : (call : Call) → r.0 ≡ Line.Is call → p + 7 ≤ r.1
+  pub long : (call : Call) → r.0 ≡ Some call → p + 7 ≤ r.1
   pub runs : (z : Size) (ns es : List ℕ) (g : Register) → lines_run (lines_of (drop p s)) z ns es g ≡
       on_line r.0 z ns es g (lines_run (lines_of (drop r.1 s)) z)
 
@@ -69,7 +69,7 @@ module _ (s : List ℕ) (p : ℕ) (inside : p < length s) where
         runs = λ z ns es g. rw (cut, after, ← drop-drop (suc n) p s, lines_cut (drop p s) within);
       }
 
-  torn_begun : length s ≤ p + n → Begun s p (Line.Bad, p + n)
+  torn_begun : length s ≤ p + n → Begun s p (None, p + n)
   unfolding n lines_run lines_of
   torn_begun h =
       let all : length (drop p s) ≤ n = omega (arith, length-drop p s) in
@@ -87,5 +87,5 @@ module _ (s : List ℕ) (p : ℕ) (inside : p < length s) where
       ⊎_elim (λ h. rw (lt-ltb (p + n) (length s) h) (whole_begun h))
       (λ h. rw (le-ltb (p + n) (length s) h) (torn_begun h)) (split (p + n) (length s))
 
-  pub begun_at : (r : Line × ℕ) → r ≡ read_at s p → Begun s p r
+  pub begun_at : (r : Option Call × ℕ) → r ≡ read_at s p → Begun s p r
   begun_at r is = rw is begun

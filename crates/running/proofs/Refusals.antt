@@ -19,7 +19,8 @@ use Rattle.terms.specs.declared.Answer.{Answer}
 use Rattle.terms.specs.declared.Refusal.{Refusal}
 use Rattle.sixteen.specs.declared.Register.{Register}
 use Rattle.sixteen.specs.Sixteen.{Left, served, serve_of}
-use Rattle.lines.specs.declared.Line.{Line}
+use Rattle.std.specs.Prelude.{Option, Some, None}
+use Rattle.sixteen.specs.declared.Call.{Call}
 use Rattle.lines.specs.Lines.{one_of, more, words_of, answer_line, refused_line, bad_line, too_long, line_in}
 use Rattle.lines.proofs.Room.{too_long_length}
 use Rattle.running.specs.Running.{caller_of, Ran, ran, first, printed, answered, on_line, lines_run}
@@ -81,27 +82,28 @@ begins_first x (ran ns es rest) = record { rest = rest; is = refl }
 abbrev pub answer_of : Left → Answer
 answer_of (served ns es r) = r.answer
 
-abbrev pub line_out : Line → Size → List ℕ → List ℕ → Register → List ℕ
-line_out (Line.Is call) z ns es g = answer_line (caller_of call) (answer_of (serve_of z ns es g call))
-line_out Line.Bad z ns es g = refused_line bad_line
+abbrev pub line_out : Option Call → Size → List ℕ → List ℕ → Register → List ℕ
+line_out (Some call) z ns es g = answer_line (caller_of call) (answer_of (serve_of z ns es g call))
+line_out None z ns es g = refused_line bad_line
 
 -- it comes first, and something may come after it
-pub line_first : (l : Line) (z : Size) (ns es : List ℕ) (g : Register) (next : List ℕ → List ℕ → Register → Ran) →
+pub line_first : (l : Option Call) (z : Size) (ns es : List ℕ) (g : Register)
+    (next : List ℕ → List ℕ → Register → Ran) →
     Begins (line_out l z ns es g) (printed (on_line l z ns es g next))
-line_first (Line.Is call) z ns es g next = by (serve_of z ns es g call)
+line_first (Some call) z ns es g next = by (serve_of z ns es g call)
   where
     by : (d : Left) → Begins (answer_line (caller_of call) (answer_of d)) (printed (answered (caller_of call) d next))
     by (served ns' es' r) = begins_first _ (next ns' es' r.register)
-line_first Line.Bad z ns es g next = begins_first _ (next ns es g)
+line_first None z ns es g next = begins_first _ (next ns es g)
 
-pub bad_only : (l : Line) (z : Size) (ns es : List ℕ) (g : Register) → line_out l z ns es g ≡ refused_line bad_line →
-    l ≡ Line.Bad
-bad_only (Line.Is call) z ns es g e =
+pub bad_only : (l : Option Call) (z : Size) (ns es : List ℕ) (g : Register) →
+    line_out l z ns es g ≡ refused_line bad_line → l ≡ None
+bad_only (Some call) z ns es g e =
     absurd (not_own _ (caller_of call) bad_line 51 [] [] thirteen_digits (omega arith)
     (ap (λ (x : List ℕ). x ++ []) e))
-bad_only Line.Bad z ns es g e = refl
+bad_only None z ns es g e = refl
 
-pub bad_when : (z : Size) (ns es : List ℕ) (g : Register) → line_out Line.Bad z ns es g ≡ refused_line bad_line
+pub bad_when : (z : Size) (ns es : List ℕ) (g : Register) → line_out None z ns es g ≡ refused_line bad_line
 bad_when z ns es g = refl
 
 pub torn_is_bad : (z : Size) (ns es : List ℕ) (g : Register)
@@ -143,10 +145,10 @@ too_long_only over z ns es g tail = nothing_not_fourteen tail
 too_long_only torn z ns es g tail = torn_not_fourteen tail
 too_long_only (line l rest) z ns es g tail = by (line_in l)
   where
-    by : (l : Line) → printed (on_line l z ns es g (lines_run rest z)) ≡ refused_line too_long ++ tail → ⊥
-    by (Line.Is call) e =
-        let f = line_first (Line.Is call) z ns es g (lines_run rest z) in
+    by : (l : Option Call) → printed (on_line l z ns es g (lines_run rest z)) ≡ refused_line too_long ++ tail → ⊥
+    by (Some call) e =
+        let f = line_first (Some call) z ns es g (lines_run rest z) in
         not_own _ (caller_of call) too_long 52 f.rest tail fourteen_digits (omega arith) (sym f.is ∙ e)
-    by Line.Bad e =
-        let f = line_first Line.Bad z ns es g (lines_run rest z) in
+    by None e =
+        let f = line_first None z ns es g (lines_run rest z) in
         thirteen_not_fourteen f.rest tail (sym f.is ∙ e)

@@ -12,7 +12,7 @@ use Rattle.register.specs.Register.{Fresh, opened, fresh_of}
 use Rattle.sixteen.specs.declared.Call.{Call}
 use Rattle.sixteen.specs.declared.Register.{Register}
 use Rattle.sixteen.specs.Sixteen.{Left, served, serve_of, fresh_register}
-use Rattle.lines.specs.declared.Line.{Line}
+use Rattle.std.specs.Prelude.{Option, Some, None}
 use Rattle.lines.specs.Lines.{line_in, answer_line, refused_line, bad_line, too_long}
 use Rattle.running.specs.declared.Unrun.{Unrun}
 
@@ -37,9 +37,9 @@ abbrev pub answered : ℕ → Left → (List ℕ → List ℕ → Register → R
 answered who (served ns es r) next = first (answer_line who r.answer) (next ns es r.register)
 
 -- a bad line changes nothing, and the run goes on
-abbrev pub on_line : Line → Size → List ℕ → List ℕ → Register → (List ℕ → List ℕ → Register → Ran) → Ran
-on_line (Line.Is call) z ns es g next = answered (caller_of call) (serve_of z ns es g call) next
-on_line Line.Bad z ns es g next = first (refused_line bad_line) (next ns es g)
+abbrev pub on_line : Option Call → Size → List ℕ → List ℕ → Register → (List ℕ → List ℕ → Register → Ran) → Ran
+on_line (Some call) z ns es g next = answered (caller_of call) (serve_of z ns es g call) next
+on_line None z ns es g next = first (refused_line bad_line) (next ns es g)
 
 -- ---- the lines; a last line without byte 10 is bad
 

@@ -15,7 +15,6 @@ ghost use Rattle.running.specs.Running.{caller_of, lines_run, wrote, write_at, r
 ghost use Rattle.running.specs.OneRecord.{slot_of, call_of, turned, turn_of};
 ghost use Rattle.running.specs.OneLine.{read_at};
 
-use lines::Line;
 use register::Opened;
 use sixteen::Call;
 use steps::{Session, Stepped};
@@ -91,7 +90,7 @@ fn room(n: usize) -> usize
 
 // The line at `place`, without its byte 10, and the place after both. A last line without byte 10 is bad, whatever it
 // says.
-fn line_at(input: &[u8], place: usize) -> (Line, usize)
+fn line_at(input: &[u8], place: usize) -> (Option<Call>, usize)
     requires { place ≤ length input.now }
     ensures { result ≡ read_at input.now place }
 {
@@ -100,7 +99,7 @@ fn line_at(input: &[u8], place: usize) -> (Line, usize)
     if e < input.len() {
         return (line, e + 1);
     }
-    (Line::Bad, e)
+    (None, e)
 }
 
 // The lines one after the other, on the register that the tables hold with the counters c and sixteen idle records.
@@ -124,10 +123,10 @@ fn serve_lines(
         let (line, next) = line_at(input, place);
         place = next;
         match line {
-            Line::Bad => {
+            None => {
                 at = lines::print_refusal(out, at, 13);
             }
-            Line::Is(call) => {
+            Some(call) => {
                 let session = &mut sessions[slot(call)];
                 at = turn(nodes, entries, out, at, &mut counters, call, session);
             }

@@ -75,7 +75,8 @@ module _ (s : List ℕ) (p : ℕ) (r : Option ℕ)
       by (ltb (position_or_len (λ b. eqb b 10) (drop p s)) (length (drop p s))) refl (sym e ∙ k)
     where
       by : (t : Bool) → ltb (position_or_len (λ b. eqb b 10) (drop p s)) (length (drop p s)) ≡ t →
-          cond t (Some (position_or_len (λ b. eqb b 10) (drop p s))) None ≡ None → length s ≡ p + line_length (drop p s)
+          cond t (Some (position_or_len (λ b. eqb b 10) (drop p s))) None ≡ None →
+          length s ≡ p + line_length (drop p s)
       by true t k = impossible (cc)
       by false t k =
           omega (
@@ -210,6 +211,17 @@ starts_as (a ∷ n) (b ∷ s) = by (eqb b a) (starts_as n s)
     by true ih = ih
     by false ih = refl
 
+pub starts_length : (n s : List ℕ) → true ≡ starts_with n s → length n ≤ length s
+unfolding starts_with
+starts_length [] s h = omega arith
+starts_length (a ∷ n) [] h = impossible (cc)
+starts_length (a ∷ n) (b ∷ s) h = by (eqb b a) (λ k. starts_length n s k) h
+  where
+    by : (t : Bool) → (true ≡ starts_with n s → length n ≤ length s) → true ≡ cond t (starts_with n s) false →
+        suc (length n) ≤ suc (length s)
+    by true ih k = omega (arith, ih k)
+    by false ih k = impossible (cc)
+
 -- ---- fields
 
 pub field_is : (n s t : List ℕ) (r : Option ℕ) → pointwise eqb (take (length n) s) n ≡ true → t ≡ drop (length n) s →
@@ -227,4 +239,6 @@ pub ruleset fields = (field_is, field_not)
 
 pub put_between : (o s : List ℕ) (p : ℕ) → p + length s ≤ length o →
     put_mid p (p + length s - p) o s ≡ sets o p s
-put_between o s p h = let e : p + length s - p ≡ length s = omega arith in rw (e, sets-eq s o p h, append_assoc, drop-drop (length s) p o)
+put_between o s p h =
+    let e : p + length s - p ≡ length s = omega arith in
+    rw (e, sets-eq s o p h, append_assoc, drop-drop (length s) p o)
