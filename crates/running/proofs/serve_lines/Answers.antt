@@ -6,11 +6,11 @@ use Rattle.running.proofs.serve_lines.Goals as goal
 pub print_refusal-at-requires : goal.print_refusal-at-requires
 print_refusal-at-requires c = search rooms
 
-pub loop-place-smaller-in-Bad : goal.loop-place-smaller-in-Bad
-loop-place-smaller-in-Bad c = search onward
+pub loop-place-smaller-in-None : goal.loop-place-smaller-in-None
+loop-place-smaller-in-None c = search onward
 
-pub loop-place-preserved-in-Bad : goal.loop-place-preserved-in-Bad
-loop-place-preserved-in-Bad c =
+pub loop-place-preserved-in-None : goal.loop-place-preserved-in-None
+loop-place-preserved-in-None c =
     (search running, search (onward, rules), search rooms, search rules, search rules, search rules, search rules)
 
 pub turn-at-requires : goal.turn-at-requires
