@@ -15,8 +15,7 @@ use Rattle.demands.specs.Demands.{Kept}
 use Rattle.std.specs.Prelude.{Ok}
 use Rattle.encoding.specs.Encoding.{decode}
 use Rattle.packing.specs.Packing.{counters_at, record_at, reply_of, number_of}
-use Rattle.several.specs.declared.Said.{Said}
-use Rattle.several.specs.Several.{said_of}
+use Rattle.several.specs.Several.{handed, hand_out}
 use Rattle.calling.specs.Calling.{kept}
 use Rattle.ffi.proofs.Kept.{words_kept}
 use Rattle.driven.specs.Always.{Unchanged}
@@ -36,18 +35,11 @@ refuses_number (Answer.End t m) n some e = absurd (some e)
 refuses_number (Answer.Refused why) n some e = record { name = refl; values = rw e }
 
 -- ---- and such an answer hands out no key
-pub refused_says : (a : Answer) (n : ℕ) → n ≢ 0 → n ≡ number_of (reply_of a) → said_of a ≡ Said.Other
+pub refused_hands : (a : Answer) (n : ℕ) → n ≢ 0 → n ≡ number_of (reply_of a)
+    → (ps : List ℕ) (m : ℕ) → hand_out ps m a ≡ handed ps m
 unfolding number_of
-refused_says Answer.Started n some e = refl
-refused_says Answer.Working n some e = absurd (some e)
-refused_says Answer.Waiting n some e = refl
-refused_says (Answer.Key k v) n some e = absurd (some e)
-refused_says (Answer.Inserted m) n some e = refl
-refused_says (Answer.Removed m) n some e = refl
-refused_says Answer.Present n some e = refl
-refused_says Answer.Absent n some e = refl
-refused_says (Answer.End t m) n some e = refl
-refused_says (Answer.Refused why) n some e = refl
+refused_hands (Answer.Key k v) n some e ps m = absurd (some e)
+refused_hands a n some e ps m = refl
 
 -- ---- what the register keeps, the slices keep: the words put back are those that were there
 pub kept_unchanged : (ws : List ℕ) (who : ℕ) (s : Session) → decode (record_at ws who) ≡ Ok s

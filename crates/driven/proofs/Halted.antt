@@ -27,7 +27,7 @@ use Rattle.encoding.specs.Encoding.{decode}
 use Rattle.packing.specs.declared.Reply.{Reply}
 use Rattle.packing.specs.Packing.{counters_at, record_at, reply_of, number_of, put_reply}
 use Rattle.several.specs.declared.Went.{Went}
-use Rattle.several.specs.Several.{Handed, handed, said_of, hand_out, Turned, turned, turn_with, turn_by, turn_of}
+use Rattle.several.specs.Several.{Handed, handed, hand_out, Turned, turned, turn_with, turn_by, turn_of}
 use Rattle.several.specs.Several.{Gone, gone, stops, next_or, go_on, several_of}
 use Rattle.calling.specs.Calling.{lengths_fit, on_decoded, tally, Strode, strode, stands_still, after_steps}
 use Rattle.calling.specs.Calling.{steps_record}
@@ -35,7 +35,7 @@ use Rattle.calling.specs.Calling.{steps_session}
 use Rattle.ffi.specs.Ffi.{steps_call}
 use Rattle.ffi.proofs.Ways.{strides_silent}
 use Rattle.driven.specs.Always.{Unchanged, made_in}
-use Rattle.driven.proofs.Checked.{refuses_number, refused_says, kept_unchanged, checked_by}
+use Rattle.driven.proofs.Checked.{refuses_number, refused_hands, kept_unchanged, checked_by}
 
 -- ---- a call makes a step at least
 module _ (ns' es' ps' : List ℕ) (r : Went) where
@@ -101,19 +101,18 @@ module _ (z : Size) (ns es ws ps out : List ℕ) (who limit n : ℕ) (some : n �
 
   -- ---- that step, refused
   module _ (s : Session) (read : decode (record_at ws who) ≡ Ok s) where
-    one_handed : (ns₁ es₁ : List ℕ) (r : Stepped) (h : Handed) → hand_out ps 0 (said_of r.answer) ≡ h
+    one_handed : (ns₁ es₁ : List ℕ) (r : Stepped) (h : Handed) → hand_out ps 0 r.answer ≡ h
         → (Refuses n r.answer → Kept ns es (counters_at ws) s (done ns₁ es₁ r))
-        → Stays (after_steps ws out who (stops 1 (turn_with ns₁ es₁ r (said_of r.answer) h)))
+        → Stays (after_steps ws out who (stops 1 (turn_with ns₁ es₁ r h)))
     one_handed ns₁ es₁ r (handed ps₁ m) e keeps told =
         let number : n ≡ number_of (reply_of r.answer) = cc in
         let K = keeps (refuses_number r.answer n some number) in
-        let none : handed ps 0 ≡ handed ps₁ m =
-        ap (hand_out ps 0) (sym (refused_says r.answer n some number)) ∙ e in
+        let none : handed ps 0 ≡ handed ps₁ m = sym (refused_hands r.answer n some number ps 0) ∙ e in
         (kept_unchanged ws who s read ns es ns₁ es₁ ns' es' ws' r K (cc) (cc) (cc), cc)
 
     one_refused : (d : Done) → (Refuses n (answer_of d) → Kept ns es (counters_at ws) s d)
         → Stays (after_steps ws out who (stops 1 (turn_by ps 0 d)))
-    one_refused (done ns₁ es₁ r) keeps = one_handed ns₁ es₁ r (hand_out ps 0 (said_of r.answer)) refl keeps
+    one_refused (done ns₁ es₁ r) keeps = one_handed ns₁ es₁ r (hand_out ps 0 r.answer) refl keeps
 
     one_turn : Stays (after_steps ws out who (stops 1 (turn_of z ns es ps 0 (counters_at ws) who s)))
     unfolding turn_of

@@ -22,7 +22,7 @@ use Rattle.reached.specs.Reached.{State, record_of, state_in, answer_in, go, ans
 use Rattle.loaded.specs.Calls.{answers}
 use Rattle.several.specs.declared.Turn.{Turn}
 use Rattle.several.specs.declared.Went.{Went}
-use Rattle.several.specs.Several.{Handed, handed, said_of, hand_out, goes_on, Turned, turned, turn_with, turn_by}
+use Rattle.several.specs.Several.{Handed, handed, hand_out, goes_on, Turned, turned, turn_with, turn_by}
 use Rattle.several.specs.Several.{turn_of}
 use Rattle.several.specs.Several.{Gone, gone, next_or, stops, go_on, several_of}
 use Rattle.calling.specs.Calling.{lengths_fit, kept, strode, after_steps, steps_record, steps_session}
@@ -39,11 +39,11 @@ module _ (σ : State) (who : ℕ) (ps : List ℕ) (n : ℕ) (ns' es' ps' : List 
     counters : t.counters ≡ (state_in (served_step σ.register who d)).register.counters
     session : t.session ≡ (returned d).session
     answer : t.answer ≡ answer_in (served_step σ.register who d)
-    hands : hand_out ps n (said_of (answer_in (served_step σ.register who d))) ≡ handed ps' t.count
-    on : t.on ≡ goes_on ps' t.count (said_of (answer_in (served_step σ.register who d)))
+    hands : hand_out ps n (answer_in (served_step σ.register who d)) ≡ handed ps' t.count
+    on : t.on ≡ goes_on ps' t.count (answer_in (served_step σ.register who d))
 
-  turn_handed : (ns es : List ℕ) (r : Stepped) (h : Handed) → hand_out ps n (said_of r.answer) ≡ h
-      → turned ns' es' ps' t ≡ turn_with ns es r (said_of r.answer) h → TurnBy (done ns es r)
+  turn_handed : (ns es : List ℕ) (r : Stepped) (h : Handed) → hand_out ps n r.answer ≡ h
+      → turned ns' es' ps' t ≡ turn_with ns es r h → TurnBy (done ns es r)
   turn_handed ns es r (handed ps₁ m) e call = record {
     nodes = cc;
     entries = cc;
@@ -55,7 +55,7 @@ module _ (σ : State) (who : ℕ) (ps : List ℕ) (n : ℕ) (ns' es' ps' : List 
   }
 
   turn_by_lem : (d : Done) → turned ns' es' ps' t ≡ turn_by ps n d → TurnBy d
-  turn_by_lem (done ns es r) call = turn_handed ns es r (hand_out ps n (said_of r.answer)) refl call
+  turn_by_lem (done ns es r) call = turn_handed ns es r (hand_out ps n r.answer) refl call
 
   abbrev d : Done
   d = step_of small σ.nodes σ.entries σ.register.counters who (record_of σ who)
@@ -70,7 +70,7 @@ no : {A : Type 0} → false ≡ true → A
 no e = let z : ◌≡◌ {A = ℕ} 0 1 = cc in absurd (omega (arith, z))
 
 module _ (ps : List ℕ) (n : ℕ) where
-  onward_answer : (a : Answer) → goes_on ps n (said_of a) ≡ true → Onward a (handed ps n)
+  onward_answer : (a : Answer) → goes_on ps n a ≡ true → Onward a (handed ps n)
   onward_answer Answer.Started e = no e
   onward_answer Answer.Working e = inl refl
   onward_answer Answer.Waiting e = no e
@@ -82,7 +82,7 @@ module _ (ps : List ℕ) (n : ℕ) where
   onward_answer (Answer.End t m) e = no e
   onward_answer (Answer.Refused why) e = no e
 
-  goes_onward : (a : Answer) → Onward a (handed ps n) → goes_on ps n (said_of a) ≡ true
+  goes_onward : (a : Answer) → Onward a (handed ps n) → goes_on ps n a ≡ true
   goes_onward a (inl e) = rw e
   goes_onward a (inr (k, v, e, room)) = rw e room
 
@@ -128,7 +128,7 @@ module _ (who : ℕ) (known : who < 16) where
         pairs = rw T.answer T.hands;
         stops = elim stop [
           | inl e ↦ inl e
-          | inr off ↦ inr (λ o. no (sym off ∙ T.on ∙ ap (λ a. goes_on ps₁ t.count (said_of a)) (sym T.answer)
+          | inr off ↦ inr (λ o. no (sym off ∙ T.on ∙ ap (λ a. goes_on ps₁ t.count a) (sym T.answer)
               ∙ goes_onward ps₁ t.count t.answer o))
         ];
       };

@@ -19,7 +19,7 @@ use Rattle.loading.specs.Loading.{done, load_of}
 use Rattle.loading.specs.declared.Unloaded.{Unloaded}
 use Rattle.loaded.specs.Calls.{answers, inserts, keys_in, values_in}
 use Rattle.onward.specs.Onward.{has_room}
-use Rattle.several.specs.Several.{Handed, handed, said_of, hand_out}
+use Rattle.several.specs.Several.{Handed, handed, hand_out}
 use Rattle.encoding.specs.Encoding.{encode, op_from}
 use Rattle.packing.specs.Packing.{counters_at, record_at, reply_with, reply_of, number_of, put_reply}
 use Rattle.exchange.specs.Exchange.{words_room, left, read_call}
@@ -67,7 +67,7 @@ in_a_row made who = replicate made (Call.Step who)
 -- the keys of answers put into the lent pairs, in order, as far as there is room
 abbrev pub hand_all : Handed → List Answer → Handed
 hand_all h [] = h
-hand_all (handed ps n) (a ∷ rs) = hand_all (hand_out ps n (said_of a)) rs
+hand_all (handed ps n) (a ∷ rs) = hand_all (hand_out ps n a) rs
 
 -- the call goes on after working, and after a key behind which another finds room
 abbrev pub Onward : Answer → Handed → Type 0
@@ -75,7 +75,7 @@ Onward a (handed ps n) = (a ≡ Answer.Working) ⊎ ((k : ℕ) × (v : ℕ) × (
 
 abbrev pub AllOnward : Handed → List Answer → Type 0
 AllOnward h [] = Unit {0}
-AllOnward (handed ps n) (a ∷ rs) = Onward a (hand_out ps n (said_of a)) × AllOnward (hand_out ps n (said_of a)) rs
+AllOnward (handed ps n) (a ∷ rs) = Onward a (hand_out ps n a) × AllOnward (hand_out ps n a) rs
 
 -- so many steps are made in a row from σ, n pairs being filled before them: one at least and `more` after it at most;
 -- every answer but the last goes on, and the last is at the limit or does not

@@ -13,11 +13,11 @@ use Rattle.terms.specs.declared.Size.{Size}
 use Rattle.terms.specs.declared.Op.{Op}
 use Rattle.steps.specs.declared.Session.{Session}
 use Rattle.register.specs.Register.{fits}
-use Rattle.onward.specs.declared.Course.{Course}
-use Rattle.onward.specs.declared.Found.{Found}
+use Rattle.std.specs.Prelude.{Option, Some, None}
+use Rattle.steps.specs.declared.Phase.{Phase}
 use Rattle.onward.specs.declared.Walked.{Walked}
 use Rattle.onward.specs.declared.Far.{Far}
-use Rattle.onward.specs.Onward.{course_of, below_at, walked_to, walk_on, put_pair, Handed, handed_to, handed_at}
+use Rattle.onward.specs.Onward.{below_at, walked_to, walk_on, put_pair, Handed, handed_to, handed_at}
 use Rattle.onward.specs.Onward.{next_key, on_found, hand_on, Reach, reached, stays, hand_far, on_course, far_of}
 
 -- `made` steps, from `from` on and of at most `most`, and no more pairs than steps
@@ -81,11 +81,11 @@ module _ (z : Size) (ns es : List ℕ) (low high snapshot : ℕ) where
       (λ to. hand_within m (put_pair ps count (key_at ns to) (value_at ns to)) to (handed + 1) (count + 1) (made + 2)
       (omega (arith, h)))
     where
-      by : (f : Found) → ((to : ℕ) → HandWithin (made + 2) (made + 2 + m) (next m ps handed count made to))
+      by : (f : Option ℕ) → ((to : ℕ) → HandWithin (made + 2) (made + 2 + m) (next m ps handed count made to))
           → HandWithin made (made + suc (suc m))
           (on_found f (next m ps handed count made) (handed_to ps (handed_at at handed count made)))
-      by (Found.At to) W = hand_more m made (next m ps handed count made to) (W to)
-      by Found.None W = hand_stays (suc (suc m)) ps at handed count made h
+      by (Some to) W = hand_more m made (next m ps handed count made to) (W to)
+      by None W = hand_stays (suc (suc m)) ps at handed count made h
 
 -- ---- a session
 abbrev ReachWithin : ℕ → ℕ → Reach → Type 0
@@ -96,16 +96,16 @@ module _ (z : Size) (ns es ps : List ℕ) (s : Session) (m count made : ℕ) (h 
       → ReachWithin made (made + m) (hand_far op snapshot g)
   far_hand op snapshot (handed_to qs g) W = W
 
-  course_within : (k : Course) → ReachWithin made (made + m) (on_course k m z ns es ps s count made)
-  course_within (Course.Walks pred curr) = walk_within z ns (sought_of s.op) count m pred curr made h
-  course_within (Course.Follows at snapshot handed) =
+  course_within : (φ : Phase) → ReachWithin made (made + m) (on_course φ m z ns es ps s count made)
+  course_within (Phase.Walk pred curr) = walk_within z ns (sought_of s.op) count m pred curr made h
+  course_within (Phase.Follow at snapshot handed) =
       far_hand s.op snapshot (hand_on m z ns es (sought_of s.op) (high_of s.op) snapshot ps at handed count made)
       (hand_within z ns es (sought_of s.op) (high_of s.op) snapshot m ps at handed count made h)
-  course_within Course.Other = record { no_fewer = omega arith; few_steps = omega arith; few_pairs = h }
+  course_within phase = record { no_fewer = omega arith; few_steps = omega arith; few_pairs = h }
 
   far_by : (b : Bool) → ReachWithin made (made + m)
-      (cond b (on_course (course_of s.phase) m z ns es ps s count made) (stays ps s count made))
-  far_by true = course_within (course_of s.phase)
+      (cond b (on_course (s.phase) m z ns es ps s count made) (stays ps s count made))
+  far_by true = course_within (s.phase)
   far_by false = record { no_fewer = omega arith; few_steps = omega arith; few_pairs = h }
 
 pub far_within : (z : Size) (ns es ps : List ℕ) (who : ℕ) (s : Session) (count made most : ℕ) (ps' : List ℕ) (f : Far)

@@ -1,10 +1,9 @@
 -- Walk and handing out, as far as each goes on without a halt: what the steps of document 01 do, all at once.
--- In order: where a session is; Walk steps that move on; a Follow to a key in range and its Hand; how far a session
+-- In order: Walk steps that move on; a Follow to a key in range and its Hand; how far a session
 -- gets. `made` steps are made, and `more` may be made here.
 -- That these are the steps, one after the other, is proved (crate several, proofs/Far.antt).
 -- Not here: the steps (crate steps). Assumes nothing.
-use Rattle.std.specs.Prelude.{Result, Ok, Err}
-use Rattle.std.specs.Prelude.{ℕ, zero, suc, ◌+◌, ◌*◌, List, Bool, cond, ◌&&◌, length, ltb, leb}
+use Rattle.std.specs.Prelude.{ℕ, zero, suc, ◌+◌, ◌*◌, List, Option, Some, None, Result, Ok, Err, Bool, cond, ◌&&◌, length, ltb, leb}
 use Rattle.table.specs.Table.{store_of}
 use Rattle.bundle.specs.Bundle.{at_of}
 use Rattle.bundle.specs.declared.Held.{Held}
@@ -15,27 +14,9 @@ use Rattle.terms.specs.declared.Size.{Size}
 use Rattle.steps.specs.declared.Phase.{Phase}
 use Rattle.steps.specs.declared.Session.{Session}
 use Rattle.register.specs.Register.{fits}
-use Rattle.onward.specs.declared.Course.{Course}
-use Rattle.onward.specs.declared.Found.{Found}
 use Rattle.onward.specs.declared.Walked.{Walked}
 use Rattle.onward.specs.declared.Handing.{Handing}
 use Rattle.onward.specs.declared.Far.{Far}
-
--- ---- a session on its way: walking, or handing out
-abbrev pub course_of : Phase → Course
-course_of Phase.Idle = Course.Other
-course_of (Phase.Walk pred curr) = Course.Walks pred curr
-course_of (Phase.Lock pred curr) = Course.Other
-course_of (Phase.LockCurr pred curr) = Course.Other
-course_of (Phase.Check pred curr) = Course.Other
-course_of (Phase.Prepare pred curr) = Course.Other
-course_of (Phase.Number pred node lower upper) = Course.Other
-course_of (Phase.Link pred node lower upper number) = Course.Other
-course_of (Phase.Finish pred node lower upper number) = Course.Other
-course_of (Phase.Newest at) = Course.Other
-course_of (Phase.Fix pred) = Course.Other
-course_of (Phase.Follow at snapshot handed) = Course.Follows at snapshot handed
-course_of (Phase.Hand at snapshot handed) = Course.Other
 
 -- ---- Walk, as long as curr's key is below the key sought
 abbrev pub walked_to : ℕ → ℕ → ℕ → Walked
@@ -52,17 +33,17 @@ walk_on (suc more) z ns sought pred curr made =
     (walked_to pred curr made)
 
 -- ---- the node in range that Follow leads to, if it does
-unfoldable pub in_range : Size → List ℕ → ℕ → ℕ → ℕ → Found
+unfoldable pub in_range : Size → List ℕ → ℕ → ℕ → ℕ → Option ℕ
 in_range z ns low high to =
-    cond (ltb to z.nodes && (leb low (key_at ns to) && leb (key_at ns to) high)) (Found.At to) Found.None
+    cond (ltb to z.nodes && (leb low (key_at ns to) && leb (key_at ns to) high)) (Some to) None
 
-abbrev pub on_taken : Size → List ℕ → ℕ → ℕ → Result ℕ Held → Found
+abbrev pub on_taken : Size → List ℕ → ℕ → ℕ → Result ℕ Held → Option ℕ
 on_taken z ns low high (Ok to) = in_range z ns low high to
-on_taken z ns low high (Err held) = Found.None
+on_taken z ns low high (Err held) = None
 
-unfoldable pub followed_to : Size → List ℕ → List ℕ → ℕ → ℕ → ℕ → ℕ → Found
+unfoldable pub followed_to : Size → List ℕ → List ℕ → ℕ → ℕ → ℕ → ℕ → Option ℕ
 followed_to z ns es low high at snapshot =
-    cond (ltb at z.nodes) (on_taken z ns low high (at_of z.entries es (newest_at ns at) snapshot)) Found.None
+    cond (ltb at z.nodes) (on_taken z ns low high (at_of z.entries es (newest_at ns at) snapshot)) None
 
 -- ---- the lent pairs: key n stands at word 2n, its value after it; is there room for n of them and one more
 unfoldable pub has_room : List ℕ → ℕ → Bool
@@ -79,13 +60,13 @@ abbrev pub handed_at : ℕ → ℕ → ℕ → ℕ → Handing
 handed_at at handed count made = record { at = at; handed = handed; count = count; made = made }
 
 -- the key that comes next, where it may be handed out and another finds room after it
-unfoldable pub next_key : Size → List ℕ → List ℕ → List ℕ → ℕ → ℕ → ℕ → ℕ → ℕ → ℕ → Found
+unfoldable pub next_key : Size → List ℕ → List ℕ → List ℕ → ℕ → ℕ → ℕ → ℕ → ℕ → ℕ → Option ℕ
 next_key z ns es ps low high snapshot at handed count =
-    cond (ltb handed z.keys && has_room ps (count + 1)) (followed_to z ns es low high at snapshot) Found.None
+    cond (ltb handed z.keys && has_room ps (count + 1)) (followed_to z ns es low high at snapshot) None
 
-abbrev pub on_found : Found → (ℕ → Handed) → Handed → Handed
-on_found (Found.At to) next stay = next to
-on_found Found.None next stay = stay
+abbrev pub on_found : Option ℕ → (ℕ → Handed) → Handed → Handed
+on_found (Some to) next stay = next to
+on_found None next stay = stay
 
 unfoldable pub hand_on : ℕ → Size → List ℕ → List ℕ → ℕ → ℕ → ℕ → List ℕ → ℕ → ℕ → ℕ → ℕ → Handed
 hand_on zero z ns es low high snapshot ps at handed count made = handed_to ps (handed_at at handed count made)
@@ -111,17 +92,18 @@ abbrev pub hand_far : Op → ℕ → Handed → Reach
 hand_far op snapshot (handed_to ps h) =
     stays ps (record { op = op; phase = Phase.Follow h.at snapshot h.handed }) h.count h.made
 
-abbrev pub on_course : Course → ℕ → Size → List ℕ → List ℕ → List ℕ → Session → ℕ → ℕ → Reach
-on_course (Course.Walks pred curr) more z ns es ps s count made =
+-- walking and handing out go on, and the other phases stay
+abbrev pub on_course : Phase → ℕ → Size → List ℕ → List ℕ → List ℕ → Session → ℕ → ℕ → Reach
+on_course (Phase.Walk pred curr) more z ns es ps s count made =
     reached ps (walk_far s.op count (walk_on more z ns (sought_of s.op) pred curr made))
-on_course (Course.Follows at snapshot handed) more z ns es ps s count made =
+on_course (Phase.Follow at snapshot handed) more z ns es ps s count made =
     hand_far s.op snapshot
     (hand_on more z ns es (sought_of s.op) (high_of s.op) snapshot ps at handed count made)
-on_course Course.Other more z ns es ps s count made = stays ps s count made
+on_course phase more z ns es ps s count made = stays ps s count made
 
 -- only where a step would be made: right lengths, a session of the sixteen, an operation
 unfoldable pub far_of : ℕ → Size → List ℕ → List ℕ → List ℕ → ℕ → Session → ℕ → ℕ → Reach
 far_of more z ns es ps who s count made =
     cond (fits z ns es && (ltb who 16 && names_of s.op))
-    (on_course (course_of s.phase) more z ns es ps s count made)
+    (on_course s.phase more z ns es ps s count made)
     (stays ps s count made)

@@ -8,7 +8,6 @@
 ghost use Rattle.std.specs.Prelude.{◌≡◌, ◌-◌, ◌≤◌, ◌<◌};
 ghost use Rattle.terms.specs.Terms.{small, sought_of, high_of};
 ghost use Rattle.onward.specs.Onward.{
-  course_of,
   below_at,
   walk_on,
   in_range,
@@ -29,36 +28,13 @@ use nodes::{KEY, NEWEST, NEXT, VALUE};
 use steps::{Phase, Session};
 use terms::Op;
 
-// Walking, or handing out: the two that go on for many steps.
+// What a call has done and may do: `count` pairs are filled and `made` steps are made, of at most `most`.
 #[derive(Clone, Copy)]
-pub enum Course {
-    Walks(u32, u32),
-    Follows(u32, u32, u32),
-    Other,
-}
-
-fn heading(phase: Phase) -> Course
-    ensures { result ≡ course_of phase }
-{
-    match phase {
-        Phase::Idle => Course::Other,
-        Phase::Walk { pred, curr } => Course::Walks(pred, curr),
-        Phase::Lock { .. } => Course::Other,
-        Phase::LockCurr { .. } => Course::Other,
-        Phase::Check { .. } => Course::Other,
-        Phase::Prepare { .. } => Course::Other,
-        Phase::Number { .. } => Course::Other,
-        Phase::Link { .. } => Course::Other,
-        Phase::Finish { .. } => Course::Other,
-        Phase::Newest { .. } => Course::Other,
-        Phase::Fix { .. } => Course::Other,
-        Phase::Follow {
-            at,
-            snapshot,
-            handed,
-        } => Course::Follows(at, snapshot, handed),
-        Phase::Hand { .. } => Course::Other,
-    }
+pub struct Progress {
+    pub count: u32,
+    pub made: u32,
+    pub most: u32,
+    pub ghost within: { (count ≤ made) × (made ≤ most) × (most < 4294967295) },
 }
 
 #[derive(Clone, Copy)]
@@ -68,75 +44,50 @@ pub struct Walked {
     pub made: u32,
 }
 
+#[tactic(auto, unfolding(crate::specs::Onward::below_at))]
 fn below(nodes: &[u32], curr: u32, sought: u32) -> bool
     ensures { result ≡ below_at small nodes.now curr sought }
 {
-    if curr < 512 {
-        return nodes::node(nodes, curr, KEY) < sought;
-    }
-    false
+    curr < terms::small_size().nodes && nodes::node(nodes, curr, KEY) < sought
 }
 
-fn walk_on(nodes: &[u32], sought: u32, from: u32, to: u32, made: u32, most: u32) -> Walked
-    ensures { result ≡ walk_on (most - made) small nodes.now sought from to made }
+#[tactic(auto, using(crate::proofs::Ways::walk_goes, crate::proofs::Ways::walks))]
+fn walk_on(nodes: &[u32], sought: u32, from: u32, to: u32, p: Progress) -> Walked
+    ensures { result ≡ walk_on (p.most - p.made) small nodes.now sought from to p.made }
 {
     let mut pred = from;
     let mut curr = to;
-    let mut count = made;
-    while count < most {
-        if below(nodes, curr, sought) {
-            pred = curr;
-            curr = nodes::node(nodes, pred, NEXT);
-            count += 1;
-        } else {
-            return Walked {
-                pred,
-                curr,
-                made: count,
-            };
+    for made in p.made..p.most {
+        if !below(nodes, curr, sought) {
+            return Walked { pred, curr, made };
         }
+        pred = curr;
+        curr = nodes::node(nodes, pred, NEXT);
     }
     Walked {
         pred,
         curr,
-        made: count,
+        made: p.most,
     }
 }
 
-// A node in range that Follow leads to.
+// The keys that a range hands out: from `low` to `high`, as they stood at `snapshot`.
 #[derive(Clone, Copy)]
-pub enum Found {
-    At(u32),
-    None,
+struct Range {
+    low: u32,
+    high: u32,
+    snapshot: u32,
 }
 
-fn in_range(nodes: &[u32], low: u32, high: u32, to: u32) -> Found
-    ensures { result ≡ in_range small nodes.now low high to }
-{
-    if to < 512 {
-        let key = nodes::node(nodes, to, KEY);
-        if low <= key {
-            if key <= high {
-                return Found::At(to);
-            }
-        }
-    }
-    Found::None
+#[derive(Clone, Copy)]
+pub struct Handing {
+    pub at: u32,
+    pub handed: u32,
+    pub count: u32,
+    pub made: u32,
 }
 
-#[tactic(auto, unfolding(crate::specs::Onward::followed_to))]
-fn follow_to(nodes: &[u32], entries: &[u32], low: u32, high: u32, at: u32, snapshot: u32) -> Found
-    ensures { result ≡ followed_to small nodes.now entries.now low high at snapshot }
-{
-    if at < 512 {
-        let link = nodes::node(nodes, at, NEWEST);
-        if let Ok(to) = bundle::read_at(entries, 2048, link, snapshot) {
-            return in_range(nodes, low, high, to);
-        }
-    }
-    Found::None
-}
-
+#[tactic(auto, unfolding(crate::specs::Onward::has_room))]
 pub fn has_room(pairs: &[u32], count: u32) -> bool
     ensures { result ≡ has_room pairs.now count }
 {
@@ -150,93 +101,83 @@ pub fn put_pair(pairs: &mut [u32], count: u32, key: u32, value: u32)
     table::store(pairs, 2, count, 1, value);
 }
 
-#[derive(Clone, Copy)]
-pub struct Handing {
-    pub at: u32,
-    pub handed: u32,
-    pub count: u32,
-    pub made: u32,
-}
-
-// The key that comes next, where it may be handed out and another finds room after it.
-fn next_key(
-    nodes: &[u32],
-    entries: &[u32],
-    pairs: &[u32],
-    low: u32,
-    high: u32,
-    snapshot: u32,
-    at: u32,
-    handed: u32,
-    count: u32,
-) -> Found
-    requires { count < 4294967295 }
-    ensures { result ≡ next_key small nodes.now entries.now pairs.now low high
-        snapshot at handed count }
-{
-    if handed < 510 {
-        if has_room(pairs, count + 1) {
-            return follow_to(nodes, entries, low, high, at, snapshot);
+impl Range {
+    // The node `to`, where its key is in the range.
+    #[tactic(auto, unfolding(crate::specs::Onward::in_range))]
+    fn holds(self, nodes: &[u32], to: u32) -> Option<u32>
+        ensures { result ≡ in_range small nodes.now self.low self.high to }
+    {
+        if to < terms::small_size().nodes {
+            let key = nodes::node(nodes, to, KEY);
+            return (self.low <= key && key <= self.high).then_some(to);
         }
+        None
     }
-    Found::None
-}
 
-fn hand_on(
-    nodes: &[u32],
-    entries: &[u32],
-    pairs: &mut [u32],
-    low: u32,
-    high: u32,
-    snapshot: u32,
-    from: Handing,
-    most: u32,
-) -> Handing
-    requires { (from.count ≤ from.made) × (from.made ≤ most) × (most < 4294967295) }
-    ensures { handed_to pairs.new result
-        ≡ hand_on (most - from.made) small nodes.now entries.now low high snapshot
-        pairs.old from.at from.handed from.count from.made }
-{
-    let mut at = from.at;
-    let mut handed = from.handed;
-    let mut count = from.count;
-    let mut made = from.made;
-    while made < most {
-        if made + 1 == most {
-            return Handing {
-                at,
-                handed,
-                count,
-                made,
+    // The node in range that Follow leads to.
+    #[tactic(auto, unfolding(crate::specs::Onward::followed_to))]
+    fn follow_to(self, nodes: &[u32], entries: &[u32], at: u32) -> Option<u32>
+        ensures { result ≡ followed_to small nodes.now entries.now self.low self.high at self.snapshot }
+    {
+        let z = terms::small_size();
+        if at < z.nodes {
+            let link = nodes::node(nodes, at, NEWEST);
+            if let Ok(to) = bundle::read_at(entries, z.entries, link, self.snapshot) {
+                return self.holds(nodes, to);
+            }
+        }
+        None
+    }
+
+    // The key that comes next, where it may be handed out and another finds room after it.
+    #[tactic(auto, unfolding(crate::specs::Onward::next_key))]
+    fn next_key(self, nodes: &[u32], entries: &[u32], pairs: &[u32], from: Handing) -> Option<u32>
+        requires { from.count < 4294967295 }
+        ensures { result ≡ next_key small nodes.now entries.now pairs.now self.low self.high
+            self.snapshot from.at from.handed from.count }
+    {
+        if from.handed < terms::small_size().keys && has_room(pairs, from.count + 1) {
+            return self.follow_to(nodes, entries, from.at);
+        }
+        None
+    }
+
+    #[tactic(auto, using(crate::proofs::Ways::few_handed, crate::proofs::Ways::give_goes, crate::proofs::Ways::gives))]
+    fn hand_on(
+        self,
+        nodes: &[u32],
+        entries: &[u32],
+        pairs: &mut [u32],
+        at: u32,
+        handed: u32,
+        p: Progress,
+    ) -> Handing
+        ensures { handed_to pairs.new result
+            ≡ hand_on (p.most - p.made) small nodes.now entries.now self.low self.high self.snapshot
+            pairs.old at handed p.count p.made }
+    {
+        let mut h = Handing {
+            at,
+            handed,
+            count: p.count,
+            made: p.made,
+        };
+        // A key takes two steps.
+        while h.made + 1 < p.most {
+            let Some(to) = self.next_key(nodes, entries, pairs, h) else {
+                return h;
+            };
+            let key = nodes::node(nodes, to, KEY);
+            let value = nodes::node(nodes, to, VALUE);
+            put_pair(pairs, h.count, key, value);
+            h = Handing {
+                at: to,
+                handed: h.handed + 1,
+                count: h.count + 1,
+                made: h.made + 2,
             };
         }
-        match next_key(
-            nodes, entries, pairs, low, high, snapshot, at, handed, count,
-        ) {
-            Found::At(to) => {
-                let key = nodes::node(nodes, to, KEY);
-                let value = nodes::node(nodes, to, VALUE);
-                put_pair(pairs, count, key, value);
-                at = to;
-                handed += 1;
-                count += 1;
-                made += 2;
-            }
-            Found::None => {
-                return Handing {
-                    at,
-                    handed,
-                    count,
-                    made,
-                };
-            }
-        }
-    }
-    Handing {
-        at,
-        handed,
-        count,
-        made,
+        h
     }
 }
 
@@ -248,20 +189,28 @@ pub struct Far {
     pub made: u32,
 }
 
-fn walk_far(nodes: &[u32], op: Op, pred: u32, curr: u32, count: u32, made: u32, most: u32) -> Far
-    ensures { result
-        ≡ walk_far op count (walk_on (most - made) small nodes.now (sought_of op) pred curr made) }
+fn stay(session: Session, p: Progress) -> Far
+    ensures { result ≡ record { session = session; count = p.count; made = p.made } }
 {
-    let sought = terms::sought(op);
-    let w = walk_on(nodes, sought, pred, curr, made, most);
+    Far {
+        session,
+        count: p.count,
+        made: p.made,
+    }
+}
+
+fn walk_far(nodes: &[u32], op: Op, pred: u32, curr: u32, p: Progress) -> Far
+    ensures { result
+        ≡ walk_far op p.count (walk_on (p.most - p.made) small nodes.now (sought_of op) pred curr p.made) }
+{
+    let w = walk_on(nodes, terms::sought(op), pred, curr, p);
     let phase = Phase::Walk {
         pred: w.pred,
         curr: w.curr,
     };
-    let session = Session { op, phase };
     Far {
-        session,
-        count,
+        session: Session { op, phase },
+        count: p.count,
         made: w.made,
     }
 }
@@ -271,92 +220,65 @@ fn hand_far(
     entries: &[u32],
     pairs: &mut [u32],
     op: Op,
+    at: u32,
     snapshot: u32,
-    from: Handing,
-    most: u32,
+    handed: u32,
+    p: Progress,
 ) -> Far
-    requires { (from.count ≤ from.made) × (from.made ≤ most) × (most < 4294967295) }
     ensures { reached pairs.new result ≡ hand_far op snapshot
-        (hand_on (most - from.made) small nodes.now entries.now (sought_of op) (high_of op)
-        snapshot pairs.old from.at from.handed from.count from.made) }
+        (hand_on (p.most - p.made) small nodes.now entries.now (sought_of op) (high_of op)
+        snapshot pairs.old at handed p.count p.made) }
 {
-    let low = terms::sought(op);
-    let high = terms::high(op);
-    let h = hand_on(nodes, entries, pairs, low, high, snapshot, from, most);
+    let range = Range {
+        low: terms::sought(op),
+        high: terms::high(op),
+        snapshot,
+    };
+    let h = range.hand_on(nodes, entries, pairs, at, handed, p);
     let phase = Phase::Follow {
         at: h.at,
         snapshot,
         handed: h.handed,
     };
-    let session = Session { op, phase };
     Far {
-        session,
+        session: Session { op, phase },
         count: h.count,
         made: h.made,
     }
 }
 
-fn along(
-    nodes: &[u32],
-    entries: &[u32],
-    pairs: &mut [u32],
-    s: Session,
-    count: u32,
-    made: u32,
-    most: u32,
-) -> Far
-    requires { (count ≤ made) × (made ≤ most) × (most < 4294967295) }
-    ensures { reached pairs.new result ≡ on_course (course_of s.phase) (most - made) small
-        nodes.now entries.now pairs.old s count made }
+// Walking and handing out go on for many steps, and the other phases not.
+fn along(nodes: &[u32], entries: &[u32], pairs: &mut [u32], s: Session, p: Progress) -> Far
+    ensures { reached pairs.new result ≡ on_course s.phase (p.most - p.made) small
+        nodes.now entries.now pairs.old s p.count p.made }
 {
-    let op = s.op;
-    let phase = s.phase;
-    match heading(phase) {
-        Course::Walks(pred, curr) => walk_far(nodes, op, pred, curr, count, made, most),
-        Course::Follows(at, snapshot, handed) => {
-            let from = Handing {
-                at,
-                handed,
-                count,
-                made,
-            };
-            hand_far(nodes, entries, pairs, op, snapshot, from, most)
-        }
-        Course::Other => Far {
-            session: s,
-            count,
-            made,
-        },
+    match s.phase {
+        Phase::Walk { pred, curr } => walk_far(nodes, s.op, pred, curr, p),
+        Phase::Follow {
+            at,
+            snapshot,
+            handed,
+        } => hand_far(nodes, entries, pairs, s.op, at, snapshot, handed, p),
+        _ => stay(s, p),
     }
 }
 
-// How far session `who` gets, where a step of it would be made: at most to `most` steps, of which `made` are made.
+// How far session `who` gets, where a step of it would be made.
+#[tactic(auto, unfolding(crate::specs::Onward::far_of))]
 pub fn go_far(
     nodes: &[u32],
     entries: &[u32],
     pairs: &mut [u32],
     who: u32,
     s: Session,
-    count: u32,
-    made: u32,
-    most: u32,
+    p: Progress,
 ) -> Far
-    requires { (count ≤ made) × (made ≤ most) × (most < 4294967295) }
-    ensures { reached pairs.new result ≡ far_of (most - made) small nodes.now
-        entries.now pairs.old who s count made }
+    ensures { reached pairs.new result ≡ far_of (p.most - p.made) small nodes.now
+        entries.now pairs.old who s p.count p.made }
 {
-    let op = s.op;
     let z = terms::small_size();
-    if register::right_lengths(z, nodes, entries) {
-        if who < 16 {
-            if terms::names(op) {
-                return along(nodes, entries, pairs, s, count, made, most);
-            }
-        }
+    if register::right_lengths(z, nodes, entries) && who < 16 && terms::names(s.op) {
+        return along(nodes, entries, pairs, s, p);
     }
-    Far {
-        session: s,
-        count,
-        made,
-    }
+    stay(s, p)
 }

@@ -2,15 +2,14 @@
 -- a Hand for each key.
 -- In order: what is known where a key comes next; one step of each kind; walking on; handing out; how far a session
 -- gets. Assumes nothing.
-use Rattle.std.specs.Prelude.{Result, Ok, Err}
-use Prim.Native.Nat.{ℕ, zero, suc, ◌+◌, ◌-◌, ◌*◌, ◌≤◌}
+use Prim.Native.Nat.{ℕ, zero, suc, ◌+◌, ◌-◌, ◌*◌, ◌≤◌, ◌<◌}
 use mathlib.Core.Path.{◌≡◌, refl, sym, ◌∙◌, ap, subst}
 use mathlib.Core.List.{List}
 use mathlib.Core.Bool.{Bool, true, false, cond, ◌&&◌}
 use native.Mathlib.Omega.{arith}
 use lib.ListN.{length}
 use lib.Dec.{ltb, leb}
-use borrow.Author.Tests.{leb-true, le-ltb, le-leb}
+use borrow.Author.Tests.{ltb-true, leb-true, le-ltb, le-leb}
 use Rattle.table.specs.Table.{store_of}
 use Rattle.table.proofs.Laws.{store_length}
 use Rattle.bundle.specs.Bundle.{at_of}
@@ -25,12 +24,14 @@ use Rattle.steps.specs.declared.Phase.{Phase}
 use Rattle.steps.specs.declared.Session.{Session}
 use Rattle.steps.specs.Steps.{done, works, gives, walk_step, range_sees, follow_step, hand_step}
 use Rattle.register.specs.Register.{fits, step_of}
-use Rattle.onward.specs.declared.Found.{Found}
+use Rattle.std.specs.Prelude.{Option, Some, None, Result, Ok, Err}
 use Rattle.onward.specs.declared.Walked.{Walked}
-use Rattle.onward.specs.Onward.{course_of, below_at, walked_to, walk_on, in_range, on_taken, followed_to, has_room}
+use Rattle.onward.specs.declared.Handing.{Handing}
+use Rattle.onward.specs.declared.Far.{Far}
+use Rattle.onward.specs.Onward.{below_at, walked_to, walk_on, in_range, on_taken, followed_to, has_room}
 use Rattle.onward.specs.Onward.{put_pair}
 use Rattle.onward.specs.Onward.{Handed, handed_to, handed_at, next_key, on_found, hand_on, Reach, reached, stays}
-use Rattle.onward.specs.Onward.{hand_far, on_course, far_of}
+use Rattle.onward.specs.Onward.{walk_far, hand_far, on_course, far_of}
 use Rattle.several.specs.Several.{Gone, turn_of, go_on}
 
 -- ---- what is known where a key comes next
@@ -39,17 +40,9 @@ both true true e = (refl, refl)
 both true false e = (refl, sym e)
 both false b e = (sym e, let x : ◌≡◌ {A = ℕ} 0 1 = cc in absurd (omega arith))
 
-abbrev IsAt : Found → Type 0
-IsAt (Found.At to) = Unit {0}
-IsAt Found.None = ⊥
-
-at_cond : (b : Bool) (r : Found) (to : ℕ) → Found.At to ≡ cond b r Found.None → (true ≡ b) × (Found.At to ≡ r)
+at_cond : (b : Bool) (r : Option ℕ) (to : ℕ) → Some to ≡ cond b r None → (true ≡ b) × (Some to ≡ r)
 at_cond true r to e = (refl, e)
-at_cond false r to e = absurd (subst IsAt e tt)
-
-abbrev node_in : Found → ℕ → ℕ
-node_in (Found.At to) other = to
-node_in Found.None other = other
+at_cond false r to e = cc
 
 record InRange (z : Size) (ns : List ℕ) (low high to : ℕ) : Type 0 where
   in_table : ltb to z.nodes ≡ true
@@ -57,13 +50,13 @@ record InRange (z : Size) (ns : List ℕ) (low high to : ℕ) : Type 0 where
   not_above : leb (key_at ns to) high ≡ true
 
 module _ (z : Size) (ns es : List ℕ) (low high to : ℕ) where
-  range_facts : (t : ℕ) → Found.At to ≡ in_range z ns low high t → (t ≡ to) × InRange z ns low high to
+  range_facts : (t : ℕ) → Some to ≡ in_range z ns low high t → (t ≡ to) × InRange z ns low high to
   unfolding in_range
   range_facts t e =
       let above = leb low (key_at ns t) in
       let below = leb (key_at ns t) high in
-      let c = at_cond (ltb t z.nodes && (above && below)) (Found.At t) to e in
-      let same : t ≡ to = sym (ap (λ f. node_in f 0) c.1) in
+      let c = at_cond (ltb t z.nodes && (above && below)) (Some t) to e in
+      let same : t ≡ to = cc in
       let d = both (ltb t z.nodes) (above && below) c.0 in
       let k = both above below (sym d.1) in (
         same,
@@ -74,9 +67,9 @@ module _ (z : Size) (ns es : List ℕ) (low high to : ℕ) where
         }),
       )
 
-  taken_facts : (o : Result ℕ Held) → Found.At to ≡ on_taken z ns low high o → (o ≡ Ok to) × InRange z ns low high to
+  taken_facts : (o : Result ℕ Held) → Some to ≡ on_taken z ns low high o → (o ≡ Ok to) × InRange z ns low high to
   taken_facts (Ok t) e = let d = range_facts t e in (ap Ok d.0, d.1)
-  taken_facts (Err held) e = absurd (subst IsAt e tt)
+  taken_facts (Err held) e = cc
 
 record Ready (z : Size) (ns es ps : List ℕ) (low high snapshot at handed count to : ℕ) : Type 0 where
   few : ltb handed z.keys ≡ true
@@ -86,7 +79,7 @@ record Ready (z : Size) (ns es ps : List ℕ) (low high snapshot at handed count
   range : InRange z ns low high to
 
 ready : (z : Size) (ns es ps : List ℕ) (low high snapshot at handed count to : ℕ)
-    → Found.At to ≡ next_key z ns es ps low high snapshot at handed count
+    → Some to ≡ next_key z ns es ps low high snapshot at handed count
     → Ready z ns es ps low high snapshot at handed count to
 unfolding next_key followed_to
 ready z ns es ps low high snapshot at handed count to e =
@@ -211,7 +204,7 @@ module _ (z : Size) (who : ℕ) (ns es : List ℕ) (c : Counters) (op : Op) (len
         by (next_key z ns es ps (sought_of op) (high_of op) snapshot at handed count) refl
         (λ to. hand_same m (made + 2) (given ps count to) to (handed + 1) (count + 1) (omega (arith, e)))
       where
-        by : (f : Found) → f ≡ next_key z ns es ps (sought_of op) (high_of op) snapshot at handed count
+        by : (f : Option ℕ) → f ≡ next_key z ns es ps (sought_of op) (high_of op) snapshot at handed count
             → ((to : ℕ) → go_on m z who (made + 2) ns es (given ps count to) (count + 1) c
             (session (Phase.Follow to snapshot (handed + 1)))
             ≡ after_hand (hand_on m z ns es (sought_of op) (high_of op) snapshot (given ps count to) to (handed + 1)
@@ -221,10 +214,10 @@ module _ (z : Size) (who : ℕ) (ns es : List ℕ) (c : Counters) (op : Op) (len
             (λ to. hand_on m z ns es (sought_of op) (high_of op) snapshot (given ps count to) to (handed + 1)
             (count + 1) (made + 2))
             (handed_to ps (handed_at at handed count made)))
-        by (Found.At to) h rest =
+        by (Some to) h rest =
             hand_one m made ps at handed count to
             (ready z ns es ps (sought_of op) (high_of op) snapshot at handed count to h) ∙ rest to
-        by Found.None h rest = rw e
+        by None h rest = rw e
 
 -- ---- how far a session gets
 module _ (z : Size) (who most : ℕ) (ns es : List ℕ) (c : Counters) where
@@ -239,30 +232,20 @@ module _ (z : Size) (who most : ℕ) (ns es : List ℕ) (c : Counters) where
   module _ (ps : List ℕ) (count made : ℕ) (lengths : fits z ns es ≡ true) (known : ltb who 16 ≡ true) where
     course_same : (φ : Phase) (op : Op) → names_of op ≡ true
         → go_on (most - made) z who made ns es ps count c (record { op = op; phase = φ })
-        ≡ after_far (on_course (course_of φ) (most - made) z ns es ps (record { op = op; phase = φ }) count made)
-    course_same Phase.Idle op named = refl
+        ≡ after_far (on_course φ (most - made) z ns es ps (record { op = op; phase = φ }) count made)
     course_same (Phase.Walk pred curr) op named =
         walk_same z who ns es c op lengths known named ps count most (most - made) made pred curr refl
-    course_same (Phase.Lock pred curr) op named = refl
-    course_same (Phase.LockCurr pred curr) op named = refl
-    course_same (Phase.Check pred curr) op named = refl
-    course_same (Phase.Prepare pred curr) op named = refl
-    course_same (Phase.Number pred node lower upper) op named = refl
-    course_same (Phase.Link pred node lower upper number) op named = refl
-    course_same (Phase.Finish pred node lower upper number) op named = refl
-    course_same (Phase.Newest at) op named = refl
-    course_same (Phase.Fix pred) op named = refl
     course_same (Phase.Follow at snapshot handed) op named =
         hand_same z who ns es c op lengths known named snapshot most (most - made) made ps at handed count refl
         ∙ far_hand op lengths known named snapshot
         (hand_on (most - made) z ns es (sought_of op) (high_of op) snapshot ps at handed count made)
-    course_same (Phase.Hand at snapshot handed) op named = refl
+    course_same phase op named = refl
 
   -- where it goes, and where it stays
   far_by : (ps : List ℕ) (s : Session) (count made : ℕ) (a b d : Bool) → a ≡ fits z ns es → b ≡ ltb who 16
       → d ≡ names_of s.op
       → go_on (most - made) z who made ns es ps count c s
-      ≡ after_far (cond (a && (b && d)) (on_course (course_of s.phase) (most - made) z ns es ps s count made)
+      ≡ after_far (cond (a && (b && d)) (on_course (s.phase) (most - made) z ns es ps s count made)
       (stays ps s count made))
   far_by ps s count made true true true f k n = course_same ps count made (sym f) (sym k) s.phase s.op (sym n)
   far_by ps s count made true true false f k n = refl

@@ -15,7 +15,7 @@ use Rattle.onward.proofs.Bounds.{far_within}
 use Rattle.several.specs.declared.Turn.{Turn}
 use Rattle.several.specs.declared.Went.{Went}
 use Rattle.several.specs.Several.{Turned, turned, turn_of, Gone, gone, stops, step_then, stride_of}
-use Rattle.several.proofs.Ways.{Rest, few, turn_last, turn_stops, turn_on}
+use Rattle.several.proofs.Ways.{Rest, go_first, few, turn_last, turn_stops, turn_on}
 use Rattle.several.proofs.Far.{far_same, after_far}
 
 -- ---- what a stride leaves
@@ -86,8 +86,6 @@ module _ (all : Gone) (z : Size) (who most made : ℕ) (ns es ps : List ℕ) (n 
   go_on h on =
       rw P.count (turn_on all z who most _ _ _ _ _ _ _ further _ _ _ _ P.steps (omega (arith, h, P.count)) on)
 
-pub ruleset goes = (go_limit, go_stop)
-
 -- ---- the numbers: one more step has room, and no more pairs are filled than steps are made
 pub one_more : (z : Size) (ns es ps : List ℕ) (who : ℕ) (s : Session) (n made most : ℕ) (ps₁ : List ℕ) (f : Far)
     → reached ps₁ f ≡ far_of (most - made) z ns es ps who s n made → n ≤ made → made ≤ most → most < 4294967295
@@ -102,6 +100,8 @@ pub count_fits : (z : Size) (ns es ps : List ℕ) (who : ℕ) (s : Session) (n m
 count_fits z ns es ps who s n made most ps₁ f e h i j =
     let W = far_within z ns es ps who s n made most ps₁ f e h i in
     omega (arith, W.few_steps, W.few_pairs, j)
+
+pub ruleset fits = (one_more, count_fits)
 
 pub few_pairs : (z : Size) (ns es ps : List ℕ) (n : ℕ) (c : Counters) (who : ℕ) (s : Session) (most made : ℕ)
     (ns' es' ps' : List ℕ) (r : Went) → gone ns' es' ps' r ≡ stride_of (most - made) z ns es ps n c who s made
@@ -121,3 +121,5 @@ less_left z ns es ps n c who s most made ns' es' ps' r call h i j =
     let P = parts z ns es ps n c who s most made ns' es' ps' r call in
     let W = far_within z ns es ps who s n made most P.pairs P.far P.goes h i in
     omega (arith, W.no_fewer, P.count, j)
+
+pub ruleset goes = (go_first, go_limit, go_stop, go_on, few_pairs, less_left)

@@ -13,38 +13,23 @@ use Rattle.steps.specs.declared.Stepped.{Stepped}
 use Rattle.steps.specs.Steps.{Done, done}
 use Rattle.register.specs.Register.{step_of}
 use Rattle.onward.specs.Onward.{has_room, put_pair, Reach, reached, far_of}
-use Rattle.several.specs.declared.Said.{Said}
 use Rattle.several.specs.declared.Turn.{Turn}
 use Rattle.several.specs.declared.Went.{Went}
-
--- ---- an answer: working, a key with its value, or any other
-abbrev pub said_of : Answer → Said
-said_of Answer.Started = Said.Other
-said_of Answer.Working = Said.Working
-said_of Answer.Waiting = Said.Other
-said_of (Answer.Key key value) = Said.Key key value
-said_of (Answer.Inserted n) = Said.Other
-said_of (Answer.Removed n) = Said.Other
-said_of Answer.Present = Said.Other
-said_of Answer.Absent = Said.Other
-said_of (Answer.End snapshot count) = Said.Other
-said_of (Answer.Refused why) = Said.Other
 
 -- ---- the lent pairs, and how many of them this call has filled
 pub data Handed : Type 0 where
   handed : List ℕ → ℕ → Handed
 
 -- with a key more, where there is room
-abbrev pub hand_out : List ℕ → ℕ → Said → Handed
-hand_out ps n Said.Working = handed ps n
-hand_out ps n (Said.Key key value) = cond (has_room ps n) (handed (put_pair ps n key value) (n + 1)) (handed ps n)
-hand_out ps n Said.Other = handed ps n
+abbrev pub hand_out : List ℕ → ℕ → Answer → Handed
+hand_out ps n (Answer.Key key value) = cond (has_room ps n) (handed (put_pair ps n key value) (n + 1)) (handed ps n)
+hand_out ps n answer = handed ps n
 
 -- whether the call goes on, so many pairs being filled by then
-abbrev pub goes_on : List ℕ → ℕ → Said → Bool
-goes_on ps n Said.Working = true
-goes_on ps n (Said.Key key value) = has_room ps n
-goes_on ps n Said.Other = false
+abbrev pub goes_on : List ℕ → ℕ → Answer → Bool
+goes_on ps n Answer.Working = true
+goes_on ps n (Answer.Key key value) = has_room ps n
+goes_on ps n answer = false
 
 -- ---- one step, and its key handed out: both tables, the pairs, and what the step returned, with how many pairs are
 -- filled and whether the call goes on
@@ -55,11 +40,11 @@ abbrev pub turn : Stepped → ℕ → Bool → Turn
 turn r n on =
     record { counters = r.counters; session = r.session; answer = r.answer; count = n; on = on }
 
-abbrev pub turn_with : List ℕ → List ℕ → Stepped → Said → Handed → Turned
-turn_with ns es r w (handed ps n) = turned ns es ps (turn r n (goes_on ps n w))
+abbrev pub turn_with : List ℕ → List ℕ → Stepped → Handed → Turned
+turn_with ns es r (handed ps n) = turned ns es ps (turn r n (goes_on ps n r.answer))
 
 abbrev pub turn_by : List ℕ → ℕ → Done → Turned
-turn_by ps n (done ns es r) = turn_with ns es r (said_of r.answer) (hand_out ps n (said_of r.answer))
+turn_by ps n (done ns es r) = turn_with ns es r (hand_out ps n r.answer)
 
 unfoldable pub turn_of : Size → List ℕ → List ℕ → List ℕ → ℕ → Counters → ℕ → Session → Turned
 turn_of z ns es ps n c who s = turn_by ps n (step_of z ns es c who s)

@@ -4,10 +4,9 @@
 // Not here: the step (crate register), the words of records and answers (crate ffi). Assumes nothing.
 #![tactic(auto)]
 
-ghost use Rattle.std.specs.Prelude.{◌≡◌, ◌-◌, ◌≤◌, ◌<◌};
+ghost use Rattle.std.specs.Prelude.{◌≡◌, ◌-◌, ◌<◌};
 ghost use Rattle.terms.specs.Terms.{small};
 ghost use Rattle.several.specs.Several.{
-  said_of,
   handed,
   hand_out,
   goes_on,
@@ -18,6 +17,7 @@ ghost use Rattle.several.specs.Several.{
   several_of,
 };
 
+use onward::Progress;
 use steps::Session;
 use terms::{Answer, Counters};
 
@@ -38,59 +38,34 @@ pub struct Went {
     pub made: u32,
 }
 
-// What matters of an answer to the call: whether it goes on.
-#[derive(Clone, Copy)]
-pub enum Said {
-    Working,
-    Key(u32, u32),
-    Other,
-}
-
-fn hear(answer: Answer) -> Said
-    ensures { result ≡ said_of answer }
+// A key more, where there is room; how many pairs are filled then.
+fn hand_out(pairs: &mut [u32], count: u32, answer: Answer) -> u32
+    requires { count < 4294967295 }
+    ensures { handed pairs.new result ≡ hand_out pairs.old count answer }
 {
     match answer {
-        Answer::Started => Said::Other,
-        Answer::Working => Said::Working,
-        Answer::Waiting => Said::Other,
-        Answer::Key(key, value) => Said::Key(key, value),
-        Answer::Inserted(_) => Said::Other,
-        Answer::Removed(_) => Said::Other,
-        Answer::Present => Said::Other,
-        Answer::Absent => Said::Other,
-        Answer::End(_, _) => Said::Other,
-        Answer::Refused(_) => Said::Other,
-    }
-}
-
-// A key more, where there is room; how many pairs are filled then.
-fn hand_out(pairs: &mut [u32], count: u32, what: Said) -> u32
-    requires { count < 4294967295 }
-    ensures { handed pairs.new result ≡ hand_out pairs.old count what }
-{
-    match what {
-        Said::Working => count,
-        Said::Key(key, value) => {
+        Answer::Key(key, value) => {
             if onward::has_room(pairs, count) {
                 onward::put_pair(pairs, count, key, value);
                 return count + 1;
             }
             count
         }
-        Said::Other => count,
+        _ => count,
     }
 }
 
-fn goes_on(pairs: &[u32], count: u32, what: Said) -> bool
-    ensures { result ≡ goes_on pairs.now count what }
+fn goes_on(pairs: &[u32], count: u32, answer: Answer) -> bool
+    ensures { result ≡ goes_on pairs.now count answer }
 {
-    match what {
-        Said::Working => true,
-        Said::Key(_, _) => onward::has_room(pairs, count),
-        Said::Other => false,
+    match answer {
+        Answer::Working => true,
+        Answer::Key(_, _) => onward::has_room(pairs, count),
+        _ => false,
     }
 }
 
+#[tactic(auto, unfolding(crate::specs::Several::turn_of))]
 fn one_step(
     nodes: &mut [u32],
     entries: &mut [u32],
@@ -105,57 +80,41 @@ fn one_step(
         ≡ turn_of small nodes.old entries.old pairs.old count c who s }
 {
     let out = register::step(nodes, entries, c, who, s);
-    let counters = out.counters;
-    let session = out.session;
-    let answer = out.answer;
-    let what = hear(answer);
-    let filled = hand_out(pairs, count, what);
-    let on = goes_on(pairs, filled, what);
+    let filled = hand_out(pairs, count, out.answer);
+    let on = goes_on(pairs, filled, out.answer);
     Turn {
-        counters,
-        session,
-        answer,
+        counters: out.counters,
+        session: out.session,
+        answer: out.answer,
         count: filled,
         on,
     }
 }
 
-// How many steps may follow the first.
-fn one_less(limit: u32) -> u32
-    ensures { result ≡ limit - 1 }
-{
-    if limit == 0 {
-        return 0;
-    }
-    limit - 1
-}
-
-// As far as the session gets without a halt, and one step more; `made` steps are made before.
+// As far as the session gets without a halt, and one step more.
+#[tactic(auto, using(crate::proofs::Strides::fits), unfolding(crate::specs::Several::stride_of))]
 fn stride(
     nodes: &mut [u32],
     entries: &mut [u32],
     pairs: &mut [u32],
-    count: u32,
     c: Counters,
     who: u32,
     s: Session,
-    made: u32,
-    most: u32,
+    p: Progress,
 ) -> Went
-    requires { (count ≤ made) × (made ≤ most) × (most < 4294967295) }
     ensures { gone nodes.new entries.new pairs.new result
-        ≡ stride_of (most - made) small nodes.old entries.old pairs.old count c who s
-        made }
+        ≡ stride_of (p.most - p.made) small nodes.old entries.old pairs.old p.count c who s
+        p.made }
 {
-    let far = onward::go_far(nodes, entries, pairs, who, s, count, made, most);
+    let far = onward::go_far(nodes, entries, pairs, who, s, p);
     let made = far.made + 1;
-    let here = far.session;
-    let last = one_step(nodes, entries, pairs, far.count, c, who, here);
+    let last = one_step(nodes, entries, pairs, far.count, c, who, far.session);
     Went { last, made }
 }
 
 // Steps of session `who` until an answer that is neither working nor a key, or a key that leaves no room for another,
 // or `limit` steps; one at least.
+#[tactic(auto, using(crate::proofs::Strides::goes))]
 pub fn steps(
     nodes: &mut [u32],
     entries: &mut [u32],
@@ -168,25 +127,21 @@ pub fn steps(
     ensures { gone nodes.new entries.new pairs.new result
         ≡ several_of small nodes.old entries.old pairs.old c who s limit }
 {
-    let most = one_less(limit);
+    let most = limit.saturating_sub(1);
     let mut counters = c;
     let mut session = s;
-    let mut count: u32 = 0;
-    let mut made: u32 = 0;
+    let mut count = 0;
+    let mut made = 0;
     loop {
-        let went = stride(
-            nodes, entries, pairs, count, counters, who, session, made, most,
-        );
+        let p = Progress { count, made, most };
+        let went = stride(nodes, entries, pairs, counters, who, session, p);
         let last = went.last;
-        if went.made <= most {
-            if last.on {
-                count = last.count;
-                counters = last.counters;
-                session = last.session;
-                made = went.made;
-                continue;
-            }
+        if most < went.made || !last.on {
+            return went;
         }
-        return went;
+        counters = last.counters;
+        session = last.session;
+        count = last.count;
+        made = went.made;
     }
 }

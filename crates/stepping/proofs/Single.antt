@@ -17,8 +17,7 @@ use Rattle.steps.specs.declared.Session.{Session}
 use Rattle.steps.specs.declared.Stepped.{Stepped}
 use Rattle.steps.specs.Steps.{Done, done}
 use Rattle.register.specs.Register.{step_of}
-use Rattle.several.specs.declared.Said.{Said}
-use Rattle.several.specs.Several.{said_of, Handed, handed, hand_out, turn_with, turn_by, turn_of, stops, go_on}
+use Rattle.several.specs.Several.{Handed, handed, hand_out, turn_with, turn_by, turn_of, stops, go_on}
 use Rattle.encoding.specs.declared.Malformed.{Malformed}
 use Rattle.encoding.specs.Encoding.{decode}
 use Rattle.packing.specs.declared.Reply.{Reply}
@@ -54,12 +53,12 @@ module _ (z : Size) (ns es ws ps out : List ℕ) (who : ℕ) (three : length out
   still_past n = ap (λ o. left ns es ws o n) (told_past (refused_by n) 0 0)
 
   -- ---- one step of a record
-  one_handed : (ns' es' : List ℕ) (r : Stepped) (w : Said) (h : Handed)
-      → left_of (after_steps ws out who (stops 1 (turn_with ns' es' r w h))) ≡ after_step ws out who (done ns' es' r)
-  one_handed ns' es' r w (handed qs n) = rw (told_past _ n 1)
+  one_handed : (ns' es' : List ℕ) (r : Stepped) (h : Handed)
+      → left_of (after_steps ws out who (stops 1 (turn_with ns' es' r h))) ≡ after_step ws out who (done ns' es' r)
+  one_handed ns' es' r (handed qs n) = rw (told_past _ n 1)
 
   one_done : (d : Done) → left_of (after_steps ws out who (stops 1 (turn_by ps 0 d))) ≡ after_step ws out who d
-  one_done (done ns' es' r) = one_handed ns' es' r (said_of r.answer) (hand_out ps 0 (said_of r.answer))
+  one_done (done ns' es' r) = one_handed ns' es' r (hand_out ps 0 r.answer)
 
   one_record : (s : Session) → left_of (steps_record z ns es ws ps out who 1 s) ≡ step_record z ns es ws out who s
   unfolding steps_record step_record go_on turn_of
