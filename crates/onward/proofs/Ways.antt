@@ -19,10 +19,6 @@ use Rattle.onward.specs.Onward.{Handed, handed_to, handed_at, next_key, hand_on}
 pub record Walking (all : Walked) (z : Size) (ns : List ℕ) (sought pred curr made most : ℕ) : Type 0 where
   pub same : all ≡ walk_on (most - made) z ns sought pred curr made
 
-pub walk_first : (z : Size) (ns : List ℕ) (sought pred curr made most : ℕ)
-    → Walking (walk_on (most - made) z ns sought pred curr made) z ns sought pred curr made most
-walk_first z ns sought pred curr made most = record { same = refl }
-
 module _ (all : Walked) (z : Size) (ns : List ℕ) (sought pred curr made most : ℕ)
     (rest : Walking all z ns sought pred curr made most) where
   pub walk_most : most ≤ made → walked_to pred curr made ≡ all
@@ -41,7 +37,7 @@ module _ (all : Walked) (z : Size) (ns : List ℕ) (sought pred curr made most :
     unfolding walk_on
     walk_goes n h e = record { same = rw (rest.same, one_more, ← test, h, e) }
 
-pub ruleset walks = (walk_most, walk_stops)
+pub ruleset walks = (walk_most, walk_stops, walk_goes)
 
 -- ---- handing out
 -- a key is handed out only where fewer than all have been, so the count of them has room to grow
@@ -58,11 +54,6 @@ few_handed ns es ps low high snapshot at handed count to r e f = elim (dec_lt ha
 pub record Giving (all : Handed) (z : Size) (ns es : List ℕ) (low high snapshot : ℕ) (ps : List ℕ)
     (at handed count made most : ℕ) : Type 0 where
   pub same : all ≡ hand_on (most - made) z ns es low high snapshot ps at handed count made
-
-pub give_first : (z : Size) (ns es : List ℕ) (low high snapshot : ℕ) (ps : List ℕ) (at handed count made most : ℕ)
-    → Giving (hand_on (most - made) z ns es low high snapshot ps at handed count made) z ns es low high snapshot ps at
-    handed count made most
-give_first z ns es low high snapshot ps at handed count made most = record { same = refl }
 
 module _ (all : Handed) (z : Size) (ns es : List ℕ) (low high snapshot : ℕ) (ps : List ℕ)
     (at handed count made most : ℕ) (rest : Giving all z ns es low high snapshot ps at handed count made most) where
@@ -91,4 +82,4 @@ module _ (all : Handed) (z : Size) (ns es : List ℕ) (low high snapshot : ℕ) 
     unfolding hand_on
     give_goes to k v ps' h e f g = record { same = rw (rest.same, two_more, ← next, h, g, e, f) }
 
-pub ruleset gives = (give_most, give_stops)
+pub ruleset gives = (few_handed, give_most, give_stops, give_goes)

@@ -1,6 +1,6 @@
 -- Walk and handing out, as far as each goes on without a halt: what the steps of document 01 do, all at once.
--- In order: Walk steps that move on; a Follow to a key in range and its Hand; how far a session
--- gets. `made` steps are made, and `more` may be made here.
+-- In order: Walk steps that move on; a Follow to a key in range and its Hand; how far a session gets. `made` steps are
+-- made, and `more` may be made here.
 -- That these are the steps, one after the other, is proved (crate several, proofs/Far.antt).
 -- Not here: the steps (crate steps). Assumes nothing.
 use Rattle.std.specs.Prelude.{ℕ, zero, suc, ◌+◌, ◌*◌, List, Option, Some, None, Result, Ok, Err, Bool, cond, ◌&&◌, length, ltb, leb}

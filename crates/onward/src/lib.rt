@@ -1,6 +1,6 @@
 // Walk and handing out, as far as each goes on without a halt, without a record in between: what makes a call of many
 // steps fast.
-// In order: where a session is; walking on; the key that Follow leads to; handing out; how far a session gets.
+// In order: how far a call is; walking on; a range, the key that Follow leads to, handing out; how far a session gets.
 // These are the steps of document 01 one after the other (crate several proves it); what does not go on is left to the
 // step itself. Not here: the steps (crate steps). Assumes nothing.
 #![tactic(auto)]
@@ -28,7 +28,7 @@ use nodes::{KEY, NEWEST, NEXT, VALUE};
 use steps::{Phase, Session};
 use terms::Op;
 
-// What a call has done and may do: `count` pairs are filled and `made` steps are made, of at most `most`.
+// What a call has done and may do: `count` of the lent pairs are filled and `made` steps are made, of at most `most`.
 #[derive(Clone, Copy)]
 pub struct Progress {
     pub count: u32,
@@ -51,7 +51,7 @@ fn below(nodes: &[u32], curr: u32, sought: u32) -> bool
     curr < terms::small_size().nodes && nodes::node(nodes, curr, KEY) < sought
 }
 
-#[tactic(auto, using(crate::proofs::Ways::walk_goes, crate::proofs::Ways::walks))]
+#[tactic(auto, using(crate::proofs::Ways::walks))]
 fn walk_on(nodes: &[u32], sought: u32, from: u32, to: u32, p: Progress) -> Walked
     ensures { result ≡ walk_on (p.most - p.made) small nodes.now sought from to p.made }
 {
@@ -142,7 +142,7 @@ impl Range {
         None
     }
 
-    #[tactic(auto, using(crate::proofs::Ways::few_handed, crate::proofs::Ways::give_goes, crate::proofs::Ways::gives))]
+    #[tactic(auto, using(crate::proofs::Ways::gives))]
     fn hand_on(
         self,
         nodes: &[u32],

@@ -2,14 +2,14 @@
 -- a Hand for each key.
 -- In order: what is known where a key comes next; one step of each kind; walking on; handing out; how far a session
 -- gets. Assumes nothing.
-use Prim.Native.Nat.{ℕ, zero, suc, ◌+◌, ◌-◌, ◌*◌, ◌≤◌, ◌<◌}
+use Prim.Native.Nat.{ℕ, zero, suc, ◌+◌, ◌-◌, ◌*◌, ◌≤◌}
 use mathlib.Core.Path.{◌≡◌, refl, sym, ◌∙◌, ap, subst}
 use mathlib.Core.List.{List}
 use mathlib.Core.Bool.{Bool, true, false, cond, ◌&&◌}
 use native.Mathlib.Omega.{arith}
 use lib.ListN.{length}
 use lib.Dec.{ltb, leb}
-use borrow.Author.Tests.{ltb-true, leb-true, le-ltb, le-leb}
+use borrow.Author.Tests.{leb-true, le-ltb, le-leb}
 use Rattle.table.specs.Table.{store_of}
 use Rattle.table.proofs.Laws.{store_length}
 use Rattle.bundle.specs.Bundle.{at_of}
@@ -26,12 +26,10 @@ use Rattle.steps.specs.Steps.{done, works, gives, walk_step, range_sees, follow_
 use Rattle.register.specs.Register.{fits, step_of}
 use Rattle.std.specs.Prelude.{Option, Some, None, Result, Ok, Err}
 use Rattle.onward.specs.declared.Walked.{Walked}
-use Rattle.onward.specs.declared.Handing.{Handing}
-use Rattle.onward.specs.declared.Far.{Far}
 use Rattle.onward.specs.Onward.{below_at, walked_to, walk_on, in_range, on_taken, followed_to, has_room}
 use Rattle.onward.specs.Onward.{put_pair}
 use Rattle.onward.specs.Onward.{Handed, handed_to, handed_at, next_key, on_found, hand_on, Reach, reached, stays}
-use Rattle.onward.specs.Onward.{walk_far, hand_far, on_course, far_of}
+use Rattle.onward.specs.Onward.{hand_far, on_course, far_of}
 use Rattle.several.specs.Several.{Gone, turn_of, go_on}
 
 -- ---- what is known where a key comes next

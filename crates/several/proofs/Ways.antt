@@ -1,6 +1,5 @@
 -- Each way out of several steps in a row, over plain values.
--- In order: one step, which fills one pair at most; the steps. `all` is what
--- the whole call leaves. Assumes nothing.
+-- In order: one step, which fills one pair at most; the steps. `all` is what the whole call leaves. Assumes nothing.
 use Prim.Native.Nat.{ℕ, suc, ◌+◌, ◌-◌, ◌≤◌, ◌<◌}
 use mathlib.Core.Path.{◌≡◌, ap}
 use mathlib.Core.List.{List}
@@ -15,7 +14,7 @@ use Rattle.steps.specs.Steps.{Done, done}
 use Rattle.register.specs.Register.{step_of}
 use Rattle.onward.specs.Onward.{has_room, put_pair}
 use Rattle.several.specs.declared.Turn.{Turn}
-use Rattle.several.specs.Several.{handed, hand_out, goes_on, Turned, turned, turn}
+use Rattle.several.specs.Several.{handed, hand_out, Turned, turned}
 use Rattle.several.specs.Several.{turn_with, turn_by, turn_of, Gone, stops, next_or, go_on, several_of}
 
 -- ---- one step fills one pair at most
@@ -28,12 +27,12 @@ module _ (ns es ps : List ℕ) (n : ℕ) where
   few_room r k v true = omega arith
   few_room r k v false = omega arith
 
-  few_said : (r : Stepped) (a : Answer) → count_in (turn_with ns es r (hand_out ps n a)) ≤ n + 1
-  few_said r (Answer.Key k v) = few_room r k v (has_room ps n)
-  few_said r a = omega arith
+  few_answer : (r : Stepped) (a : Answer) → count_in (turn_with ns es r (hand_out ps n a)) ≤ n + 1
+  few_answer r (Answer.Key k v) = few_room r k v (has_room ps n)
+  few_answer r a = omega arith
 
 few_done : (ps : List ℕ) (n : ℕ) (d : Done) → count_in (turn_by ps n d) ≤ n + 1
-few_done ps n (done ns es r) = few_said ns es ps n r r.answer
+few_done ps n (done ns es r) = few_answer ns es ps n r r.answer
 
 pub few : (z : Size) (ns es ps : List ℕ) (n : ℕ) (c : Counters) (who : ℕ) (s : Session) (ns' es' ps' : List ℕ)
     (t : Turn) (made : ℕ) → turned ns' es' ps' t ≡ turn_of z ns es ps n c who s → n ≤ made → t.count ≤ made + 1
