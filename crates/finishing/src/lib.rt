@@ -16,77 +16,44 @@ ghost use Rattle.steps.specs.Steps.{
 };
 
 use nodes::{NEXT, REMOVED};
-use steps::{Phase, Stepped, Task};
+use steps::{Laid, Stepped, Task};
 use terms::{Answer, Counters, Op};
 
 #[tactic(auto, unfolding(steps::specs::Steps::number_step))]
-pub fn number(task: Task, pred: u32, node: u32, lower: u32, upper: u32) -> Stepped
-    ensures { result ≡ number_step task.size task.counters task.op pred node lower upper }
+pub fn number(task: Task, laid: Laid) -> Stepped
+    ensures { result
+        ≡ number_step task.size task.counters task.op laid.pred laid.node laid.lower laid.upper }
 {
     let stamp = task.counters.stamp;
     if task.size.updates <= stamp {
-        return task.damaged(Phase::Number {
-            pred,
-            node,
-            lower,
-            upper,
-        });
+        return task.damaged(laid.numbering());
     }
-    let raised = Task {
-        counters: Counters {
-            stamp: stamp + 1,
-            ..task.counters
-        },
-        ..task
+    let counters = Counters {
+        stamp: stamp + 1,
+        ..task.counters
     };
-    raised.work(Phase::Link {
-        pred,
-        node,
-        lower,
-        upper,
-        number: stamp + 1,
-    })
+    let raised = Task { counters, ..task };
+    raised.work(laid.linking(stamp + 1))
 }
 
 #[tactic(auto, unfolding(steps::specs::Steps::link_step, steps::specs::Steps::insert_link, steps::specs::Steps::remove_link))]
-pub fn link(
-    task: Task,
-    nodes: &mut [u32],
-    pred: u32,
-    node: u32,
-    lower: u32,
-    upper: u32,
-    number: u32,
-) -> Stepped
+pub fn link(task: Task, nodes: &mut [u32], laid: Laid, number: u32) -> Stepped
     ensures { moved nodes.new result
-        ≡ link_step task.size nodes.old task.counters task.op pred node lower upper number }
+        ≡ link_step task.size nodes.old task.counters task.op laid.pred laid.node laid.lower
+        laid.upper number }
 {
-    let here = Phase::Link {
-        pred,
-        node,
-        lower,
-        upper,
-        number,
-    };
-    let then = Phase::Finish {
-        pred,
-        node,
-        lower,
-        upper,
-        number,
-    };
     let removes = terms::removes(task.op);
-    if task.size.nodes <= pred || removes && task.size.nodes <= node {
-        return task.damaged(here);
+    if task.size.nodes <= laid.pred || removes && task.size.nodes <= laid.node {
+        return task.damaged(laid.linking(number));
     }
     if removes {
-        let next = nodes::node(nodes, node, NEXT);
-        nodes::put(nodes, node, REMOVED, 1);
-        nodes::put(nodes, pred, NEXT, next);
+        let next = nodes::node(nodes, laid.node, NEXT);
+        nodes::put(nodes, laid.node, REMOVED, 1);
+        nodes::put(nodes, laid.pred, NEXT, next);
     } else {
-        nodes::put(nodes, pred, NEXT, node);
+        nodes::put(nodes, laid.pred, NEXT, laid.node);
     }
-    task.work(then)
+    task.work(laid.finishing(number))
 }
 
 fn finished(op: Op, number: u32) -> Answer
@@ -100,14 +67,14 @@ fn finished(op: Op, number: u32) -> Answer
 
 // Whether all that Finish uses lies in the tables.
 #[tactic(auto, unfolding(steps::specs::Steps::usable))]
-fn is_usable(task: Task, pred: u32, node: u32, lower: u32, upper: u32) -> bool
-    ensures { result ≡ usable task.size task.op pred node lower upper }
+fn is_usable(task: Task, laid: Laid) -> bool
+    ensures { result ≡ usable task.size task.op laid.pred laid.node laid.lower laid.upper }
 {
     let size = task.size;
-    lower < size.entries
-        && upper < size.entries
-        && pred < size.nodes
-        && (!terms::removes(task.op) || node < size.nodes)
+    laid.lower < size.entries
+        && laid.upper < size.entries
+        && laid.pred < size.nodes
+        && (!terms::removes(task.op) || laid.node < size.nodes)
 }
 
 #[tactic(auto, unfolding(steps::specs::Steps::finish_step))]
@@ -115,27 +82,18 @@ pub fn finish(
     task: Task,
     nodes: &mut [u32],
     entries: &mut [u32],
-    pred: u32,
-    node: u32,
-    lower: u32,
-    upper: u32,
+    laid: Laid,
     number: u32,
 ) -> Stepped
     ensures { done nodes.new entries.new result
-        ≡ finish_step task.size nodes.old entries.old task.counters task.op pred node lower upper
-        number }
+        ≡ finish_step task.size nodes.old entries.old task.counters task.op laid.pred laid.node
+        laid.lower laid.upper number }
 {
-    if is_usable(task, pred, node, lower, upper) {
-        bundle::finish(entries, lower, number);
-        bundle::finish(entries, upper, number);
-        nodes::unlock_both(nodes, pred, node, terms::removes(task.op));
+    if is_usable(task, laid) {
+        bundle::finish(entries, laid.lower, number);
+        bundle::finish(entries, laid.upper, number);
+        nodes::unlock_both(nodes, laid.pred, laid.node, terms::removes(task.op));
         return task.end(finished(task.op, number));
     }
-    task.damaged(Phase::Finish {
-        pred,
-        node,
-        lower,
-        upper,
-        number,
-    })
+    task.damaged(laid.finishing(number))
 }

@@ -6,7 +6,7 @@
 ghost use Rattle.std.specs.Prelude.{◌≡◌, ◌<◌};
 ghost use Rattle.steps.specs.Steps.{done, act_step};
 
-use steps::{Phase, Stepped, Task};
+use steps::{Laid, Phase, Query, Stepped, Task};
 use terms::Refusal;
 
 pub fn act(task: Task, nodes: &mut [u32], entries: &mut [u32], who: u32, phase: Phase) -> Stepped
@@ -32,32 +32,70 @@ pub fn act(task: Task, nodes: &mut [u32], entries: &mut [u32], who: u32, phase: 
             node,
             lower,
             upper,
-        } => finishing::number(task, pred, node, lower, upper),
+        } => {
+            let laid = Laid {
+                pred,
+                node,
+                lower,
+                upper,
+            };
+            finishing::number(task, laid)
+        }
         Phase::Link {
             pred,
             node,
             lower,
             upper,
             number,
-        } => finishing::link(task, nodes, pred, node, lower, upper, number),
+        } => {
+            let laid = Laid {
+                pred,
+                node,
+                lower,
+                upper,
+            };
+            finishing::link(task, nodes, laid, number)
+        }
         Phase::Finish {
             pred,
             node,
             lower,
             upper,
             number,
-        } => finishing::finish(task, nodes, entries, pred, node, lower, upper, number),
+        } => {
+            let laid = Laid {
+                pred,
+                node,
+                lower,
+                upper,
+            };
+            finishing::finish(task, nodes, entries, laid, number)
+        }
         Phase::Newest { at } => reading::newest(task, nodes, entries, at),
         Phase::Fix { pred } => reading::fix(task, pred),
         Phase::Follow {
             at,
             snapshot,
             handed,
-        } => reading::follow(task, nodes, entries, at, snapshot, handed),
+        } => {
+            let query = Query {
+                at,
+                snapshot,
+                handed,
+            };
+            reading::follow(task, nodes, entries, query)
+        }
         Phase::Hand {
             at,
             snapshot,
             handed,
-        } => reading::hand(task, nodes, at, snapshot, handed),
+        } => {
+            let query = Query {
+                at,
+                snapshot,
+                handed,
+            };
+            reading::hand(task, nodes, query)
+        }
     }
 }

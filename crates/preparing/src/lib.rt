@@ -22,7 +22,7 @@ ghost use Rattle.steps.specs.Steps.{
 
 use bundle::Held;
 use nodes::{NEWEST, NEXT};
-use steps::{Phase, Stepped, Task};
+use steps::{Laid, Phase, Stepped, Task};
 use terms::{Answer, Counters, Refusal, Size};
 
 // Whether the newest entry of a node's bundle is pending.
@@ -89,7 +89,7 @@ fn lay_remove(task: Task, nodes: &mut [u32], entries: &mut [u32], pred: u32, cur
 }
 
 // Both entries are laid, and `used` nodes are in use: on to Number.
-fn laid(task: Task, used: u32, pred: u32, node: u32) -> Stepped
+fn go_on(task: Task, used: u32, pred: u32, node: u32) -> Stepped
     requires { task.counters.entries + 2 ≤ 4294967295 }
     ensures { result
         ≡ works (counted task.counters used) task.op
@@ -102,12 +102,13 @@ fn laid(task: Task, used: u32, pred: u32, node: u32) -> Stepped
         ..task.counters
     };
     let counted = Task { counters, ..task };
-    counted.work(Phase::Number {
+    let laid = Laid {
         pred,
         node,
         lower,
         upper: lower + 1,
-    })
+    };
+    counted.work(laid.numbering())
 }
 
 #[tactic(auto, unfolding(steps::specs::Steps::insert_room))]
@@ -127,7 +128,7 @@ fn room_insert(task: Task, nodes: &mut [u32], entries: &mut [u32], pred: u32, cu
         return task.damaged(Phase::Prepare { pred, curr });
     }
     lay_insert(task, nodes, entries, pred, curr);
-    laid(task, n + 1, pred, n)
+    go_on(task, n + 1, pred, n)
 }
 
 #[tactic(auto, unfolding(steps::specs::Steps::remove_room))]
@@ -140,7 +141,7 @@ fn room_remove(task: Task, nodes: &mut [u32], entries: &mut [u32], pred: u32, cu
         return task.damaged(Phase::Prepare { pred, curr });
     }
     lay_remove(task, nodes, entries, pred, curr);
-    laid(task, n, pred, curr)
+    go_on(task, n, pred, curr)
 }
 
 // Where no newest entry that it looks at is pending, room for the rest.

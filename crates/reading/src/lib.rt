@@ -7,7 +7,7 @@ ghost use Rattle.steps.specs.Steps.{walk_step, has_sees, newest_step, fix_step, 
 
 use bundle::Held;
 use nodes::{KEY, NEWEST, NEXT, VALUE};
-use steps::{Phase, Stepped, Task};
+use steps::{Phase, Query, Stepped, Task};
 use terms::Answer;
 
 #[tactic(auto, unfolding(steps::specs::Steps::walk_step))]
@@ -66,89 +66,66 @@ pub fn fix(task: Task, pred: u32) -> Stepped
     ensures { result ≡ fix_step task.counters task.op pred }
 {
     let snapshot = task.counters.stamp;
-    task.work(Phase::Follow {
+    let query = Query {
         at: pred,
         snapshot,
         handed: 0,
-    })
+    };
+    task.work(query.following())
 }
 
 // A range at the node that the link at its snapshot leads to.
 #[tactic(auto, unfolding(steps::specs::Steps::range_sees))]
-fn range_sees(task: Task, nodes: &[u32], at: u32, snapshot: u32, handed: u32, to: u32) -> Stepped
+fn range_sees(task: Task, nodes: &[u32], query: Query, to: u32) -> Stepped
     ensures { result
-        ≡ range_sees task.size nodes.now task.counters task.op at snapshot handed to }
+        ≡ range_sees task.size nodes.now task.counters task.op query.at query.snapshot query.handed
+        to }
 {
     if task.size.nodes <= to {
-        return task.damaged(Phase::Follow {
-            at,
-            snapshot,
-            handed,
-        });
+        return task.damaged(query.following());
     }
     let key = nodes::node(nodes, to, KEY);
+    let on = Query { at: to, ..query };
     if key < terms::sought(task.op) {
-        return task.work(Phase::Follow {
-            at: to,
-            snapshot,
-            handed,
-        });
+        return task.work(on.following());
     }
     if key <= terms::high(task.op) {
-        return task.work(Phase::Hand {
-            at: to,
-            snapshot,
-            handed,
-        });
+        return task.work(on.handing());
     }
-    task.end(Answer::End(snapshot, handed))
+    task.end(Answer::End(query.snapshot, query.handed))
 }
 
 #[tactic(auto, unfolding(steps::specs::Steps::follow_step))]
-pub fn follow(
-    task: Task,
-    nodes: &[u32],
-    entries: &[u32],
-    at: u32,
-    snapshot: u32,
-    handed: u32,
-) -> Stepped
+pub fn follow(task: Task, nodes: &[u32], entries: &[u32], query: Query) -> Stepped
     ensures { result
-        ≡ follow_step task.size nodes.now entries.now task.counters task.op at snapshot handed }
+        ≡ follow_step task.size nodes.now entries.now task.counters task.op query.at query.snapshot
+        query.handed }
 {
-    let here = Phase::Follow {
-        at,
-        snapshot,
-        handed,
-    };
-    if task.size.nodes <= at {
+    let here = query.following();
+    if task.size.nodes <= query.at {
         return task.damaged(here);
     }
-    let link = nodes::node(nodes, at, NEWEST);
-    match bundle::read_at(entries, task.size.entries, link, snapshot) {
+    let link = nodes::node(nodes, query.at, NEWEST);
+    match bundle::read_at(entries, task.size.entries, link, query.snapshot) {
         Err(Held::Wait) => task.wait(here),
-        Ok(to) => range_sees(task, nodes, at, snapshot, handed, to),
+        Ok(to) => range_sees(task, nodes, query, to),
         Err(Held::Damaged) => task.damaged(here),
     }
 }
 
 #[tactic(auto, unfolding(steps::specs::Steps::hand_step))]
-pub fn hand(task: Task, nodes: &[u32], at: u32, snapshot: u32, handed: u32) -> Stepped
-    ensures { result ≡ hand_step task.size nodes.now task.counters task.op at snapshot handed }
+pub fn hand(task: Task, nodes: &[u32], query: Query) -> Stepped
+    ensures { result
+        ≡ hand_step task.size nodes.now task.counters task.op query.at query.snapshot query.handed }
 {
-    if task.size.nodes <= at || task.size.keys <= handed {
-        return task.damaged(Phase::Hand {
-            at,
-            snapshot,
-            handed,
-        });
+    if task.size.nodes <= query.at || task.size.keys <= query.handed {
+        return task.damaged(query.handing());
     }
-    let key = nodes::node(nodes, at, KEY);
-    let value = nodes::node(nodes, at, VALUE);
-    let on = Phase::Follow {
-        at,
-        snapshot,
-        handed: handed + 1,
+    let key = nodes::node(nodes, query.at, KEY);
+    let value = nodes::node(nodes, query.at, VALUE);
+    let on = Query {
+        handed: query.handed + 1,
+        ..query
     };
-    task.give(on, Answer::Key(key, value))
+    task.give(on.following(), Answer::Key(key, value))
 }

@@ -85,6 +85,82 @@ pub enum Phase {
     },
 }
 
+// What Prepare laid: the lower entry in pred, and the upper one in the node.
+#[derive(Clone, Copy)]
+pub struct Laid {
+    pub pred: u32,
+    pub node: u32,
+    pub lower: u32,
+    pub upper: u32,
+}
+
+impl Laid {
+    pub fn numbering(self) -> Phase
+        ensures { result ≡ Phase.Number self.pred self.node self.lower self.upper }
+    {
+        Phase::Number {
+            pred: self.pred,
+            node: self.node,
+            lower: self.lower,
+            upper: self.upper,
+        }
+    }
+
+    pub fn linking(self, number: u32) -> Phase
+        ensures { result ≡ Phase.Link self.pred self.node self.lower self.upper number }
+    {
+        Phase::Link {
+            pred: self.pred,
+            node: self.node,
+            lower: self.lower,
+            upper: self.upper,
+            number,
+        }
+    }
+
+    pub fn finishing(self, number: u32) -> Phase
+        ensures { result ≡ Phase.Finish self.pred self.node self.lower self.upper number }
+    {
+        Phase::Finish {
+            pred: self.pred,
+            node: self.node,
+            lower: self.lower,
+            upper: self.upper,
+            number,
+        }
+    }
+}
+
+// How far a range is: the node where it stands, its snapshot, and how many keys it has handed out.
+#[derive(Clone, Copy)]
+pub struct Query {
+    pub at: u32,
+    pub snapshot: u32,
+    pub handed: u32,
+}
+
+impl Query {
+    pub fn following(self) -> Phase
+        ensures { result ≡ Phase.Follow self.at self.snapshot self.handed }
+    {
+        Phase::Follow {
+            at: self.at,
+            snapshot: self.snapshot,
+            handed: self.handed,
+        }
+    }
+
+    pub fn handing(self) -> Phase
+        ensures { result ≡ Phase.Hand self.at self.snapshot self.handed }
+    {
+        Phase::Hand {
+            at: self.at,
+            snapshot: self.snapshot,
+            handed: self.handed,
+        }
+    }
+}
+
 // A session's record: which operation it runs, and which phase it has reached.
 #[derive(Clone, Copy)]
 pub struct Session {
