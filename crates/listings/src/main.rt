@@ -4,25 +4,12 @@
 // numbers; the tables lent are all 7, and `words` counts every word of them afterwards.
 #![tactic(auto)]
 
-use listing::Unwritten;
-use loading::Unloaded;
-use scanning::{Unread, Whole};
+use scanning::Whole;
 use serving::files;
 use std::fs::File;
 use std::io;
-use terms::Counters;
 
 // ---- reading and writing back
-
-fn show_back(rt: &impl Print, out: &[u8], k: usize, input: &[u8]) -> io::Result<()> {
-    say::one(rt, b"written=", k as u64)?;
-    if k <= out.len() {
-        if &out[..k] == input {
-            rt.write_all(b"same bytes\n")?;
-        }
-    }
-    Ok(())
-}
 
 fn write_back(
     rt: &impl Print,
@@ -33,9 +20,14 @@ fn write_back(
 ) -> io::Result<()> {
     let mut out = [0u8; 16357];
     match listing::write(stamp, keys, values, &mut out) {
-        Ok(k) => show_back(rt, &out, k, input),
-        Err(Unwritten::NoRoom) => say::one(rt, b"refused=", 11),
-        Err(Unwritten::BadPairs) => say::one(rt, b"refused=", 12),
+        Ok(k) => {
+            println!(rt; "written={k}")?;
+            if out.get(..k) == Some(input) {
+                println!(rt; "same bytes")?;
+            }
+            Ok(())
+        }
+        Err(why) => say::unwritten(rt, why),
     }
 }
 
@@ -44,15 +36,11 @@ fn reads(rt: &impl Print, input: &[u8]) -> io::Result<()> {
     let mut values = [0u32; 510];
     match scanning::read(510, input, &mut keys, &mut values) {
         Ok(Whole { stamp, count }) => {
-            say::two(rt, b"read=", stamp as u64, count as u64)?;
+            println!(rt; "read={stamp},{count}")?;
             let n = count as usize;
-            if n <= 510 {
-                write_back(rt, input, stamp, &keys[..n], &values[..n])?;
-            }
-            Ok(())
+            write_back(rt, input, stamp, &keys[..n], &values[..n])
         }
-        Err(Unread::BadListing(p)) => say::two(rt, b"refused=", 9, p as u64),
-        Err(Unread::TooMany) => say::one(rt, b"refused=", 10),
+        Err(why) => say::unloaded(rt, why.into()),
     }
 }
 
@@ -65,25 +53,12 @@ fn sum(words: &[u32]) -> u64 {
     })
 }
 
-fn show_loaded(rt: &impl Print, r: Result<Counters, Unloaded>) -> io::Result<()> {
-    match r {
-        Ok(c) => say::three(
-            rt,
-            b"loaded=",
-            c.nodes as u64,
-            c.entries as u64,
-            c.stamp as u64,
-        ),
-        Err(Unloaded::BadTable) => say::one(rt, b"refused=", 7),
-        Err(Unloaded::BadListing(p)) => say::two(rt, b"refused=", 9, p as u64),
-        Err(Unloaded::TooMany) => say::one(rt, b"refused=", 10),
-    }
-}
-
 fn loads(rt: &impl Print, input: &[u8], nodes: &mut [u32], entries: &mut [u32]) -> io::Result<()> {
-    let r = loading::load(input, nodes, entries);
-    show_loaded(rt, r)?;
-    say::two(rt, b"words=", sum(nodes), sum(entries))
+    match loading::load(input, nodes, entries) {
+        Ok(c) => println!(rt; "loaded={},{},{}", c.nodes, c.entries, c.stamp)?,
+        Err(why) => say::unloaded(rt, why)?,
+    }
+    println!(rt; "words={},{}", sum(nodes), sum(entries))
 }
 
 // Into tables whose every word is 7.

@@ -1,40 +1,24 @@
-// Lines of names and numbers on standard output, for the programs that run cases.
-// In order: a number; lines of one, two and three. Each stops at the first write that fails, and returns its error.
-// Not here: the runner's answers (the runner's). No contract can say what is written.
+// What the programs that run cases print of a refusal of the listing's crates: `refused=` and document 01's number, and
+// of a listing that is not allowed the offset too, after a comma.
+// In order: of writing; of reading and loading. Each returns the error of the first write that fails.
+// Not here: the runner's answers (crate lines). No contract can say what is written.
 #![tactic(auto)]
 
+use listing::Unwritten;
+use loading::Unloaded;
 use std::io;
 
-// Writes n.
-fn number(rt: &impl Print, n: u64) -> io::Result<()> {
-    let mut digits = [0u8; 20];
-    let k = text::put_number(&mut digits, 0, n);
-    rt.write_all(&digits[..k])
+pub fn unwritten(rt: &impl Print, why: Unwritten) -> io::Result<()> {
+    match why {
+        Unwritten::NoRoom => println!(rt; "refused=11"),
+        Unwritten::BadPairs => println!(rt; "refused=12"),
+    }
 }
 
-// Writes a line of a name and a number.
-pub fn one(rt: &impl Print, name: &[u8], a: u64) -> io::Result<()> {
-    rt.write_all(name)?;
-    number(rt, a)?;
-    rt.write_all(b"\n")
-}
-
-// Of a name and two numbers.
-pub fn two(rt: &impl Print, name: &[u8], a: u64, b: u64) -> io::Result<()> {
-    rt.write_all(name)?;
-    number(rt, a)?;
-    rt.write_all(b",")?;
-    number(rt, b)?;
-    rt.write_all(b"\n")
-}
-
-// Of a name and three.
-pub fn three(rt: &impl Print, name: &[u8], a: u64, b: u64, c: u64) -> io::Result<()> {
-    rt.write_all(name)?;
-    number(rt, a)?;
-    rt.write_all(b",")?;
-    number(rt, b)?;
-    rt.write_all(b",")?;
-    number(rt, c)?;
-    rt.write_all(b"\n")
+pub fn unloaded(rt: &impl Print, why: Unloaded) -> io::Result<()> {
+    match why {
+        Unloaded::BadTable => println!(rt; "refused=7"),
+        Unloaded::BadListing(offset) => println!(rt; "refused=9,{offset}"),
+        Unloaded::TooMany => println!(rt; "refused=10"),
+    }
 }

@@ -11,8 +11,7 @@ use std::{array, io};
 fn show(rt: &impl Print, written: Result<usize, Unwritten>) -> io::Result<()> {
     match written {
         Ok(length) => println!(rt; "written={length}"),
-        Err(Unwritten::NoRoom) => println!(rt; "refused=11"),
-        Err(Unwritten::BadPairs) => println!(rt; "refused=12"),
+        Err(why) => say::unwritten(rt, why),
     }
 }
 
