@@ -5,6 +5,7 @@
 -- Each premise is the contract's own clause with the values at entry and at exit for variables.
 -- Not here: functions that are public only between crates of the list; each has one of the shapes at the top.
 -- Assumes nothing.
+use Rattle.terms.specs.declared.Refusal.{Refusal}
 use Rattle.std.specs.Prelude.{Result}
 use Prim.Native.Nat.{ℕ}
 use mathlib.Core.Path.{◌≡◌, sym, ◌∙◌, ap}
@@ -18,7 +19,6 @@ use Rattle.steps.specs.declared.Session.{Session}
 use Rattle.steps.specs.declared.Stepped.{Stepped}
 use Rattle.steps.specs.Steps.{Done, done, Moved, moved}
 use Rattle.register.specs.declared.Started.{Started}
-use Rattle.register.specs.declared.Opened.{Opened}
 use Rattle.register.specs.Register.{Fresh, opened, fresh_of, start_of, step_of}
 use Rattle.sixteen.specs.declared.Register.{Register}
 use Rattle.sixteen.specs.declared.Call.{Call}
@@ -34,7 +34,7 @@ module _ (ns es ns' es' : List ℕ) where
       (ns ≡ ns') × (es ≡ es') × (r ≡ r')
   one_done d r r' p q = (cc, cc, cc)
 
-  pub one_opened : (f : Fresh) (r r' : Opened) → opened ns es r ≡ f → opened ns' es' r' ≡ f →
+  pub one_opened : (f : Fresh) (r r' : Result Counters Refusal) → opened ns es r ≡ f → opened ns' es' r' ≡ f →
       (ns ≡ ns') × (es ≡ es') × (r ≡ r')
   one_opened f r r' p q = (cc, cc, cc)
 
@@ -48,7 +48,7 @@ one_moved ns ns' m r r' p q = (cc, cc)
 
 -- ---- register: at entry the tables are ns and es; at exit ns₁ and es₁ in one outcome, ns₂ and es₂ in another
 module _ (ns es ns₁ es₁ ns₂ es₂ : List ℕ) where
-  pub only_fresh : (r₁ r₂ : Opened) → opened ns₁ es₁ r₁ ≡ fresh_of small ns es →
+  pub only_fresh : (r₁ r₂ : Result Counters Refusal) → opened ns₁ es₁ r₁ ≡ fresh_of small ns es →
       opened ns₂ es₂ r₂ ≡ fresh_of small ns es →
       (ns₁ ≡ ns₂) × (es₁ ≡ es₂) × (r₁ ≡ r₂)
   only_fresh r₁ r₂ = one_opened ns₁ es₁ ns₂ es₂ (fresh_of small ns es) r₁ r₂

@@ -22,7 +22,6 @@ use Rattle.steps.specs.declared.Session.{Session}
 use Rattle.steps.specs.declared.Stepped.{Stepped}
 use Rattle.steps.specs.Steps.{Done, done, idle, held_at, held_either}
 use Rattle.register.specs.declared.Started.{Started}
-use Rattle.register.specs.declared.Opened.{Opened}
 use Rattle.register.specs.Register.{Fresh, opened, fresh_nodes, fresh_entries, fresh_counters, fresh_of, start_of}
 use Rattle.register.specs.Register.{step_of}
 use Rattle.sixteen.specs.declared.Register.{Register}
@@ -51,8 +50,8 @@ pub record Kept (ns es : List ℕ) (c : Counters) (s : Session) (d : Done) : Typ
 
 -- fresh answers with counters or with a refusal, by its number
 abbrev pub RefusesFresh : ℕ → Fresh → Type 0
-RefusesFresh n (opened ns es (Opened.Ready c)) = ⊥
-RefusesFresh n (opened ns es (Opened.Refused why)) = refusal_number why ≡ n
+RefusesFresh n (opened ns es (Ok c)) = ⊥
+RefusesFresh n (opened ns es (Err why)) = refusal_number why ≡ n
 
 abbrev pub sessions_of : Left → List Session
 sessions_of (served ns es r) = r.register.sessions
@@ -221,8 +220,8 @@ Wait z ns es who op (Phase.Hand at snapshot handed) = ⊥
 pub record FreshDemand (z : Size) (ns es : List ℕ) (f : Fresh) : Type 0 where
   pub bad_table : RefusesFresh 7 f ↔ BadTable z ns es
   -- it opens, or refuses with 7 and leaves the tables as they were
-  pub answers : (f ≡ opened (fresh_nodes ns) (fresh_entries es) (Opened.Ready fresh_counters))
-      ⊎ (f ≡ opened ns es (Opened.Refused Refusal.BadTable))
+  pub answers : (f ≡ opened (fresh_nodes ns) (fresh_entries es) (Ok fresh_counters))
+      ⊎ (f ≡ opened ns es (Err Refusal.BadTable))
 
 -- ---- start: 7, 1, 2, 3, 4. Exactly when
 pub record StartRows (z : Size) (ns es : List ℕ) (who : ℕ) (s : Session) (op : Op) (a : Answer) : Type 0 where

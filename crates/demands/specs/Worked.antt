@@ -6,6 +6,7 @@
 -- P11 speaks of counters: the 510th insert comes to Prepare with 511 nodes used (head, tail and 509 keys), the 511th
 -- with 512. That 510 inserts lead a register to those counters is demand 2's. P12 is the listing's.
 -- Not here: the proof (proofs/Worked.antt). Assumes nothing.
+use Rattle.std.specs.Prelude.{Err}
 use Rattle.std.specs.Prelude.{Ok}
 use Rattle.std.specs.Prelude.{ℕ, ◌≤◌, ◌<◌, ◌≡◌, List, [], ◌∷◌, ◌++◌, length, replicate}
 use Rattle.nodes.specs.Nodes.{key_at, next_at, removed_at, unlocked}
@@ -17,7 +18,6 @@ use Rattle.terms.specs.declared.Refusal.{Refusal}
 use Rattle.steps.specs.declared.Phase.{Phase}
 use Rattle.steps.specs.declared.Session.{Session}
 use Rattle.steps.specs.Steps.{done, idle, ends, held_at}
-use Rattle.register.specs.declared.Opened.{Opened}
 use Rattle.register.specs.Register.{Fresh, opened, fresh_of, start_of, step_of}
 use Rattle.sixteen.specs.declared.Call.{Call}
 use Rattle.sixteen.specs.Sixteen.{Left, served, fresh_register, serve_of}
@@ -50,8 +50,8 @@ does who op n = Call.Start who op ∷ steps who n
 
 -- ---- a fresh register, of tables that were all 0
 abbrev pub opens : Fresh → Left
-opens (opened ns es (Opened.Ready c)) = served ns es (record { register = fresh_register c; answer = Answer.Started })
-opens (opened ns es (Opened.Refused why)) = served ns es (record {
+opens (opened ns es (Ok c)) = served ns es (record { register = fresh_register c; answer = Answer.Started })
+opens (opened ns es (Err why)) = served ns es (record {
   register = fresh_register (record { nodes = 0; entries = 0; stamp = 0 });
   answer = Answer.Refused why;
 })
@@ -161,7 +161,7 @@ abbrev pub counts : ℕ → Counters
 counts n = record { nodes = n; entries = 1; stamp = 0 }
 
 pub record Met : Type 0 where
-  pub fresh_7 : fresh_of small [] [] ≡ opened [] [] (Opened.Refused Refusal.BadTable)
+  pub fresh_7 : fresh_of small [] [] ≡ opened [] [] (Err Refusal.BadTable)
   pub start_7 : said (start_of small [] [] 0 idle (Op.Has 5)).answer ≡ says refused (7 ∷ [])
   pub start_1 : started_by 16 idle (Op.Has 5) ≡ says refused (1 ∷ [])
   pub start_2 : started_by 0 busy_record (Op.Has 5) ≡ says refused (2 ∷ [])

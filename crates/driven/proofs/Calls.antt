@@ -1,6 +1,7 @@
 -- What fresh, start and step of the library make of a held register: what document 01's calls do.
 -- In order: what a call leaves of the sixteen records, and slices that hold it; a step; a start; fresh.
 -- Not here: several steps (Strides), reading (Read). Assumes nothing.
+use Rattle.std.specs.Prelude.{Ok, Err}
 use Prim.Native.Nat.{ℕ, ◌<◌}
 use mathlib.Core.Path.{◌≡◌, refl, sym, ◌∙◌, ap}
 use mathlib.Core.Logic.{◌≢◌}
@@ -15,7 +16,6 @@ use Rattle.terms.specs.declared.Counters.{Counters}
 use Rattle.terms.specs.declared.Refusal.{Refusal}
 use Rattle.steps.specs.declared.Session.{Session}
 use Rattle.steps.specs.Steps.{Done, done, idle}
-use Rattle.register.specs.declared.Opened.{Opened}
 use Rattle.register.specs.Register.{fits, opened, fresh_nodes, fresh_entries, fresh_counters, fresh_of, step_of}
 use Rattle.sixteen.specs.declared.Call.{Call}
 use Rattle.sixteen.specs.Sixteen.{Left, served}
@@ -159,7 +159,7 @@ idle_holds ns es ws c long =
 
 module _ (ns es ws ns' es' ws' : List ℕ) where
   fresh_tables : fits small ns es ≡ true
-      → fresh_of small ns es ≡ opened (fresh_nodes ns) (fresh_entries es) (Opened.Ready fresh_counters)
+      → fresh_of small ns es ≡ opened (fresh_nodes ns) (fresh_entries es) (Ok fresh_counters)
   unfolding fresh_of
   fresh_tables fit = rw fit
 
@@ -177,8 +177,8 @@ module _ (ns es ws ns' es' ws' : List ℕ) where
 
   fresh_by : (b t : Bool) → eqb (length ws) 147 ≡ b → fits small ns es ≡ t
       → cleared ns' es' ws' 0 ≡ cond b (after_fresh ws (cond t
-      (opened (fresh_nodes ns) (fresh_entries es) (Opened.Ready fresh_counters))
-      (opened ns es (Opened.Refused Refusal.BadTable)))) (cleared ns es ws 7)
+      (opened (fresh_nodes ns) (fresh_entries es) (Ok fresh_counters))
+      (opened ns es (Err Refusal.BadTable)))) (cleared ns es ws 7)
       → Holds ns' es' ws' (all_idle ns' es' fresh_counters) × Reached small (all_idle ns' es' fresh_counters) no_past
   fresh_by true true long fit call = fresh_here (eqb-true (length ws) 147 long) fit call
   fresh_by true false long fit call = let z : ◌≡◌ {A = ℕ} 0 7 = cc in absurd (omega (arith, z))

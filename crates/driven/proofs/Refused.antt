@@ -3,6 +3,7 @@
 -- that were there.
 -- In order: start; step; fresh; reading; the theorem.
 -- Not here: several steps (Halted). Assumes nothing.
+use Rattle.std.specs.Prelude.{Ok, Err}
 use Prim.Native.Nat.{ℕ}
 use mathlib.Core.Path.{◌≡◌, refl, ◌∙◌, ap}
 use mathlib.Core.Logic.{◌≢◌}
@@ -16,7 +17,6 @@ use Rattle.terms.specs.declared.Op.{Op}
 use Rattle.terms.specs.declared.Refusal.{Refusal}
 use Rattle.steps.specs.declared.Session.{Session}
 use Rattle.steps.specs.Steps.{Done, done, Tables, tables}
-use Rattle.register.specs.declared.Opened.{Opened}
 use Rattle.register.specs.Register.{fits, opened, fresh_nodes, fresh_entries, fresh_counters, fresh_of, start_of}
 use Rattle.register.specs.Register.{step_of}
 use Rattle.demands.specs.Demands.{answer_of, Kept}
@@ -112,8 +112,8 @@ module _ (z : Size) (ns es ws out : List ℕ) (who n : ℕ) (some : n ≢ 0) whe
 -- ---- fresh and reading
 module _ (z : Size) (ns es ws : List ℕ) (n : ℕ) (some : n ≢ 0) (ns' es' ws' : List ℕ) where
   fresh_by : (b t : Bool) → cleared ns' es' ws' n ≡ cond b (after_fresh ws (cond t
-      (opened (fresh_nodes ns) (fresh_entries es) (Opened.Ready fresh_counters))
-      (opened ns es (Opened.Refused Refusal.BadTable)))) (cleared ns es ws 7) → Unchanged ns es ws ns' es' ws'
+      (opened (fresh_nodes ns) (fresh_entries es) (Ok fresh_counters))
+      (opened ns es (Err Refusal.BadTable)))) (cleared ns es ws 7) → Unchanged ns es ws ns' es' ws'
   fresh_by true true told = let z : n ≡ 0 = cc in absurd (some z)
   fresh_by true false told = record { nodes = cc; entries = cc; words = cc }
   fresh_by false t told = record { nodes = cc; entries = cc; words = cc }

@@ -5,13 +5,13 @@
 -- (proofs/Kept.antt); an answer of another length than 3, or 5 for several steps, stays.
 -- Not here: the checks and one step (crate stepping), answers and several steps (crate calling), listings (crate
 -- exchange), the register's calls (crate register), where words lie (crate packing). Assumes nothing.
+use Rattle.std.specs.Prelude.{Ok, Err}
 use Rattle.std.specs.Prelude.{ℕ, ◌≡◌, List, true, cond, length, eqb}
 use Rattle.terms.specs.Terms.{refusal_number}
 use Rattle.terms.specs.declared.Size.{Size}
 use Rattle.terms.specs.declared.Op.{Op}
 use Rattle.steps.specs.declared.Session.{Session}
 use Rattle.register.specs.declared.Started.{Started}
-use Rattle.register.specs.declared.Opened.{Opened}
 use Rattle.register.specs.Register.{Fresh, opened, fresh_of, start_of}
 use Rattle.encoding.specs.Encoding.{encode, op_from, decode}
 use Rattle.packing.specs.Packing.{op_at, record_at, put_record, fresh_words, refused_by, reply_of, number_of}
@@ -35,8 +35,8 @@ pub data Cleared : Type 0 where
   cleared : List ℕ → List ℕ → List ℕ → ℕ → Cleared
 
 abbrev pub after_fresh : List ℕ → Fresh → Cleared
-after_fresh ws (opened ns es (Opened.Ready c)) = cleared ns es (fresh_words ws c) 0
-after_fresh ws (opened ns es (Opened.Refused why)) = cleared ns es ws (refusal_number why)
+after_fresh ws (opened ns es (Ok c)) = cleared ns es (fresh_words ws c) 0
+after_fresh ws (opened ns es (Err why)) = cleared ns es ws (refusal_number why)
 
 unfoldable pub fresh_call : Size → List ℕ → List ℕ → List ℕ → Cleared
 fresh_call z ns es ws = cond (eqb (length ws) words_room) (after_fresh ws (fresh_of z ns es)) (cleared ns es ws 7)

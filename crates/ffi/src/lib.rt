@@ -28,7 +28,6 @@ ghost use Rattle.ffi.specs.Ffi.{
 
 use encoding::{Malformed, Words};
 use packing::{A, B, Reply};
-use register::Opened;
 use steps::Session;
 use terms::{Answer, Op, Refusal};
 
@@ -42,11 +41,11 @@ pub extern "C" fn ravencrumb_fresh(nodes: &mut [u32], entries: &mut [u32], words
         return u32::from(Refusal::BadTable);
     }
     match register::fresh(nodes, entries) {
-        Opened::Ready(counters) => {
+        Ok(counters) => {
             packing::fresh_words(words, counters);
             0
         }
-        Opened::Refused(why) => u32::from(why),
+        Err(why) => u32::from(why),
     }
 }
 

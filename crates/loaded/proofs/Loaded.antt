@@ -3,6 +3,7 @@
 -- In order: a size with room; what loading answers; the calls' numbers; the theorem, for any size; reached; the set;
 -- the same for document 01's size; P12.
 -- Assumes nothing.
+use Rattle.std.specs.Prelude.{Err}
 use Prim.Native.Nat.{ℕ, zero, suc, ◌+◌, ◌≤◌}
 use mathlib.Core.Path.{◌≡◌, refl, sym, ◌∙◌, ap, fun_ext}
 use mathlib.Core.Bool.{Bool, true, false, cond}
@@ -19,7 +20,6 @@ use Rattle.terms.specs.declared.Op.{Op}
 use Rattle.terms.specs.declared.Refusal.{Refusal}
 use Rattle.steps.specs.declared.Session.{Session}
 use Rattle.steps.specs.Steps.{Tables, tables, idle}
-use Rattle.register.specs.declared.Opened.{Opened}
 use Rattle.register.specs.Register.{fits, fresh_nodes, fresh_entries, fresh_counters, fresh_of}
 use Rattle.register.specs.Register.{opened as fresh_opened}
 use Rattle.sixteen.specs.declared.Call.{Call}
@@ -187,19 +187,19 @@ unfolding numbers_in lines_of ends class_of field_in starts_with number_in grows
 empty_keys = refl
 
 opened_fits : (z : Size) (ns es ns' es' : List ℕ) (c : Counters) →
-    fresh_of z ns es ≡ fresh_opened ns' es' (Opened.Ready c) →
+    fresh_of z ns es ≡ fresh_opened ns' es' (Ok c) →
     (fits z ns es ≡ true) × (ns' ≡ fresh_nodes ns) × (es' ≡ fresh_entries es) × (c ≡ fresh_counters)
 unfolding fresh_of
 opened_fits z ns es ns' es' c = by (fits z ns es) refl
   where
     by : (b : Bool) → fits z ns es ≡ b →
-        cond b (fresh_opened (fresh_nodes ns) (fresh_entries es) (Opened.Ready fresh_counters))
-        (fresh_opened ns es (Opened.Refused Refusal.BadTable)) ≡ fresh_opened ns' es' (Opened.Ready c) →
+        cond b (fresh_opened (fresh_nodes ns) (fresh_entries es) (Ok fresh_counters))
+        (fresh_opened ns es (Err Refusal.BadTable)) ≡ fresh_opened ns' es' (Ok c) →
         (fits z ns es ≡ true) × (ns' ≡ fresh_nodes ns) × (es' ≡ fresh_entries es) × (c ≡ fresh_counters)
     by true fit h = (fit, cc, cc, cc)
     by false fit h = impossible (cc)
 
-pub p12 : (ns es ns' es' : List ℕ) (c : Counters) → fresh_of small ns es ≡ fresh_opened ns' es' (Opened.Ready c) →
+pub p12 : (ns es ns' es' : List ℕ) (c : Counters) → fresh_of small ns es ≡ fresh_opened ns' es' (Ok c) →
     load_of small empty_listing ns es ≡ done (tables ns' es') (Ok c)
 unfolding load_of loaded_tables filed_all
 p12 ns es ns' es' c told =

@@ -8,7 +8,6 @@ use Rattle.terms.specs.declared.Size.{Size}
 use Rattle.terms.specs.declared.Counters.{Counters}
 use Rattle.terms.specs.declared.Op.{Op}
 use Rattle.steps.specs.Steps.{tables}
-use Rattle.register.specs.declared.Opened.{Opened}
 use Rattle.register.specs.Register.{fresh_of, opened}
 use Rattle.sixteen.specs.declared.Call.{Call}
 use Rattle.sixteen.specs.Sixteen.{fresh_register}
@@ -26,7 +25,7 @@ listed_past s = record {
 }
 
 pub data Made (z : Size) : State → Past → Type 0 where
-  fresh : (ns es ns' es' : List ℕ) (c : Counters) → fresh_of z ns es ≡ opened ns' es' (Opened.Ready c) →
+  fresh : (ns es ns' es' : List ℕ) (c : Counters) → fresh_of z ns es ≡ opened ns' es' (Ok c) →
       Made z (record { nodes = ns'; entries = es'; register = fresh_register c }) no_past
   loaded : (s ns es ns' es' : List ℕ) (c : Counters) →
       load_of z s ns es ≡ done (tables ns' es') (Ok c) →

@@ -1,5 +1,7 @@
 -- Words into tables: each way through the writers of words, over plain values.
 -- In order: one key more; all keys; the tables' lengths; fresh tables, then all keys. Assumes nothing.
+use Rattle.std.specs.Prelude.{Result, Ok}
+use Rattle.terms.specs.declared.Refusal.{Refusal}
 use Prim.Native.Nat.{ℕ, ◌+◌, ◌*◌, ◌≤◌, ◌<◌}
 use mathlib.Core.Path.{◌≡◌, refl, sym, ap, ◌∙◌}
 use mathlib.Core.List.{List, [], ◌∷◌}
@@ -14,7 +16,6 @@ use Rattle.nodes.specs.Nodes.{put_node, newest_at, unlocked, new_node}
 use Rattle.terms.specs.declared.Size.{Size}
 use Rattle.terms.specs.declared.Counters.{Counters}
 use Rattle.steps.specs.Steps.{Tables, tables}
-use Rattle.register.specs.declared.Opened.{Opened}
 use Rattle.register.specs.Register.{fits, fresh_nodes, fresh_entries, fresh_counters, fresh_of, opened}
 use Rattle.loading.specs.Filing.{used, pred_of, prepared_nodes, filed_nodes}
 use Rattle.loading.specs.Filing.{prepared_entries, filed_entries, filed, filed_all, fresh_tables}
@@ -125,11 +126,11 @@ pub ruleset lengths = (fits_nodes, fits_not)
 -- ---- fresh tables, then all keys
 
 opens : (z : Size) (ns es : List ℕ) → fits z ns es ≡ true →
-    fresh_of z ns es ≡ opened (fresh_nodes ns) (fresh_entries es) (Opened.Ready fresh_counters)
+    fresh_of z ns es ≡ opened (fresh_nodes ns) (fresh_entries es) (Ok fresh_counters)
 unfolding fresh_of
 opens z ns es h = rw h
 
-pub fills : (z : Size) (ks vs ns es m n x y : List ℕ) (r : Opened) → fits z ns es ≡ true →
+pub fills : (z : Size) (ks vs ns es m n x y : List ℕ) (r : Result Counters Refusal) → fits z ns es ≡ true →
     opened m n r ≡ fresh_of z ns es → tables x y ≡ filed_all 0 ks vs (tables m n) →
     tables x y ≡ filed_all 0 ks vs (fresh_tables ns es)
 fills z ks vs ns es m n x y r h a b =

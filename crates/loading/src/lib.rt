@@ -134,7 +134,8 @@ fn fill(nodes: &mut [u32], entries: &mut [u32], keys: &[u32], values: &[u32])
         filed_all 0 keys.now values.now
         (fresh_tables nodes.old entries.old) }
 {
-    register::fresh(nodes, entries);
+    // Nothing is refused: the lengths are right.
+    let _ = register::fresh(nodes, entries);
     file_all(nodes, entries, keys, values);
 }
 

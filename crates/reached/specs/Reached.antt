@@ -4,6 +4,7 @@
 -- The history is computed from the calls, their answers and the stamp alone: no session's record is in it, and nothing
 -- of an invariant.
 -- Not here: a register read from a listing, which is a reached one by theorem. Assumes nothing.
+use Rattle.std.specs.Prelude.{Ok}
 use Rattle.std.specs.Prelude.{ℕ, ◌≤◌, ◌≡◌, cond, List, [], ◌∷◌, ◌++◌, ltb, eqb}
 use Rattle.order.specs.Set.{Pair, Update, insert, remove}
 use Rattle.terms.specs.Terms.{sought_of, high_of, value_of}
@@ -13,7 +14,6 @@ use Rattle.terms.specs.declared.Op.{Op}
 use Rattle.terms.specs.declared.Refusal.{Refusal}
 use Rattle.terms.specs.declared.Answer.{Answer}
 use Rattle.steps.specs.declared.Session.{Session}
-use Rattle.register.specs.declared.Opened.{Opened}
 use Rattle.register.specs.Register.{fresh_of, opened}
 use Rattle.sixteen.specs.declared.Register.{Register}
 use Rattle.sixteen.specs.declared.Call.{Call}
@@ -144,6 +144,6 @@ InWords (Call.Step who) = Unit {0}
 
 -- ---- reached: from tables that fresh has opened, by starts and steps, each on what the last one left
 pub data Reached (z : Size) : State → Past → Type 0 where
-  fresh : (ns es ns' es' : List ℕ) (c : Counters) → fresh_of z ns es ≡ opened ns' es' (Opened.Ready c)
+  fresh : (ns es ns' es' : List ℕ) (c : Counters) → fresh_of z ns es ≡ opened ns' es' (Ok c)
       → Reached z (record { nodes = ns'; entries = es'; register = fresh_register c }) no_past
   on : {σ : State} {h : Past} → Reached z σ h → (c : Call) → InWords c → Reached z (go z σ c) (note z σ c h)

@@ -2,6 +2,7 @@
 -- In order: the tables' lengths; fresh; start (7, 1, 2, 3, 4); step (7, 1, 5, and 8 by the step); a call over sixteen
 -- records. `z` is the size, `ns` and `es` are the lent tables.
 -- Not here: the steps (crate steps). Assumes nothing.
+use Rattle.std.specs.Prelude.{Result, Ok, Err}
 use Rattle.std.specs.Prelude.{ℕ, ◌*◌, List, Bool, true, false, cond, ◌&&◌, ◌||◌, length, get_or, set, replicate, ltb}
 use Rattle.std.specs.Prelude.{eqb}
 use Rattle.table.specs.Table.{clear_of}
@@ -18,7 +19,6 @@ use Rattle.steps.specs.declared.Session.{Session}
 use Rattle.steps.specs.declared.Stepped.{Stepped}
 use Rattle.steps.specs.Steps.{Done, done, idle, busy_of, refuses, act_step}
 use Rattle.register.specs.declared.Started.{Started}
-use Rattle.register.specs.declared.Opened.{Opened}
 
 -- ---- tables of the size: 6 words a node, 4 words an entry
 unfoldable pub fits : Size → List ℕ → List ℕ → Bool
@@ -27,7 +27,7 @@ fits z ns es = eqb (length ns) (z.nodes * 6) && eqb (length es) (z.entries * 4)
 -- ---- fresh: head (node 0), tail (node 1), entry 0 in the head's bundle with stamp 0 to the tail, plain link head to
 -- tail
 pub data Fresh : Type 0 where
-  opened : List ℕ → List ℕ → Opened → Fresh
+  opened : List ℕ → List ℕ → Result Counters Refusal → Fresh
 
 unfoldable pub fresh_nodes : List ℕ → List ℕ
 fresh_nodes ns = put_node (put_node (put_node (clear_of ns) 0 2 1) 0 5 1) 1 0 tail_key
@@ -41,8 +41,8 @@ fresh_counters = record { nodes = 2; entries = 1; stamp = 0 }
 unfoldable pub fresh_of : Size → List ℕ → List ℕ → Fresh
 fresh_of z ns es =
     cond (fits z ns es)
-    (opened (fresh_nodes ns) (fresh_entries es) (Opened.Ready fresh_counters))
-    (opened ns es (Opened.Refused Refusal.BadTable))
+    (opened (fresh_nodes ns) (fresh_entries es) (Ok fresh_counters))
+    (opened ns es (Err Refusal.BadTable))
 
 -- ---- start: pred is the head, curr the head's plain next at that moment
 abbrev pub keeps : Session → Refusal → Started

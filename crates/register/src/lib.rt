@@ -32,23 +32,15 @@ pub struct Started {
     pub answer: Answer,
 }
 
-// What fresh returns: the counters of the register that the tables now hold, or the refusal.
-#[derive(Clone, Copy)]
-pub enum Opened {
-    Ready(Counters),
-    Refused(Refusal),
-}
-
+#[tactic(auto, unfolding(crate::specs::Register::fits))]
 pub fn right_lengths(z: Size, nodes: &[u32], entries: &[u32]) -> bool
     ensures { result ≡ fits z nodes.now entries.now }
 {
-    if nodes.len() == z.nodes as usize * 6 {
-        return entries.len() == z.entries as usize * 4;
-    }
-    false
+    nodes.len() == z.nodes as usize * 6 && entries.len() == z.entries as usize * 4
 }
 
 // Head and tail, the head's link to the tail, and its entry 0, dated 0, to the tail.
+#[tactic(auto, unfolding(crate::specs::Register::fresh_nodes))]
 fn open_nodes(nodes: &mut [u32])
     ensures { nodes.new ≡ fresh_nodes nodes.old }
 {
@@ -58,6 +50,7 @@ fn open_nodes(nodes: &mut [u32])
     nodes::put(nodes, 1, KEY, 4294967295);
 }
 
+#[tactic(auto, unfolding(crate::specs::Register::fresh_entries))]
 fn open_entries(entries: &mut [u32])
     ensures { entries.new ≡ fresh_entries entries.old }
 {
@@ -66,41 +59,43 @@ fn open_entries(entries: &mut [u32])
     bundle::finish(entries, 0, 0);
 }
 
-pub fn fresh(nodes: &mut [u32], entries: &mut [u32]) -> Opened
+// The counters of the register that the tables now hold.
+#[tactic(auto, unfolding(crate::specs::Register::fresh_of))]
+pub fn fresh(nodes: &mut [u32], entries: &mut [u32]) -> Result<Counters, Refusal>
     ensures { opened nodes.new entries.new result
         ≡ fresh_of small nodes.old entries.old }
 {
-    let z = terms::small_size();
-    if right_lengths(z, nodes, entries) {
-        open_nodes(nodes);
-        open_entries(entries);
-        let counters = Counters {
-            nodes: 2,
-            entries: 1,
-            stamp: 0,
-        };
-        return Opened::Ready(counters);
+    if !right_lengths(terms::small_size(), nodes, entries) {
+        return Err(Refusal::BadTable);
     }
-    Opened::Refused(Refusal::BadTable)
+    open_nodes(nodes);
+    open_entries(entries);
+    let counters = Counters {
+        nodes: 2,
+        entries: 1,
+        stamp: 0,
+    };
+    Ok(counters)
 }
 
+#[tactic(auto, unfolding(crate::specs::Register::bad_key))]
 fn is_bad_key(op: Op) -> bool
     ensures { result ≡ bad_key op }
 {
-    if terms::out_of_bounds(terms::sought(op)) {
-        return true;
-    }
-    terms::out_of_bounds(terms::high(op))
+    terms::out_of_bounds(terms::sought(op)) || terms::out_of_bounds(terms::high(op))
 }
 
 fn keep(session: Session, why: Refusal) -> Started
     ensures { result ≡ keeps session why }
 {
-    let answer = Answer::Refused(why);
-    Started { session, answer }
+    Started {
+        session,
+        answer: Answer::Refused(why),
+    }
 }
 
 // The start of an idle session, where only the operation's own numbers are left to check.
+#[tactic(auto, unfolding(crate::specs::Register::began))]
 fn begin(nodes: &[u32], s: Session, op: Op) -> Started
     ensures { result ≡ began nodes.now s op }
 {
@@ -112,25 +107,26 @@ fn begin(nodes: &[u32], s: Session, op: Op) -> Started
     }
     let curr = nodes::node(nodes, 0, NEXT);
     let phase = Phase::Walk { pred: 0, curr };
-    let session = Session { op, phase };
-    let answer = Answer::Started;
-    Started { session, answer }
+    Started {
+        session: Session { op, phase },
+        answer: Answer::Started,
+    }
 }
 
+#[tactic(auto, unfolding(crate::specs::Register::start_of))]
 pub fn start(nodes: &[u32], entries: &[u32], who: u32, s: Session, op: Op) -> Started
     ensures { result ≡ start_of small nodes.now entries.now who s op }
 {
-    let z = terms::small_size();
-    if right_lengths(z, nodes, entries) {
-        if 16 <= who {
-            return keep(s, Refusal::BadSession);
-        }
-        if steps::busy(s) {
-            return keep(s, Refusal::Busy);
-        }
-        return begin(nodes, s, op);
+    if !right_lengths(terms::small_size(), nodes, entries) {
+        return keep(s, Refusal::BadTable);
     }
-    keep(s, Refusal::BadTable)
+    if 16 <= who {
+        return keep(s, Refusal::BadSession);
+    }
+    if steps::busy(s) {
+        return keep(s, Refusal::Busy);
+    }
+    begin(nodes, s, op)
 }
 
 #[tactic(auto, unfolding(crate::specs::Register::step_of))]
@@ -143,14 +139,14 @@ pub fn step(nodes: &mut [u32], entries: &mut [u32], c: Counters, who: u32, s: Se
         counters: c,
         op: s.op,
     };
-    if right_lengths(task.size, nodes, entries) {
-        if 16 <= who {
-            return task.refuse(s.phase, Refusal::BadSession);
-        }
-        if steps::busy(s) {
-            return list::act(task, nodes, entries, who, s.phase);
-        }
-        return task.refuse(s.phase, Refusal::Idle);
+    if !right_lengths(task.size, nodes, entries) {
+        return task.refuse(s.phase, Refusal::BadTable);
     }
-    task.refuse(s.phase, Refusal::BadTable)
+    if 16 <= who {
+        return task.refuse(s.phase, Refusal::BadSession);
+    }
+    if steps::busy(s) {
+        return list::act(task, nodes, entries, who, s.phase);
+    }
+    task.refuse(s.phase, Refusal::Idle)
 }

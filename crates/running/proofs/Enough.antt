@@ -15,7 +15,6 @@ use Rattle.text.specs.Text.{Lines, over, torn, line, lines_of, joined, ends}
 use Rattle.text.proofs.Basics.{split}
 use Rattle.terms.specs.declared.Size.{Size}
 use Rattle.terms.specs.Terms.{small}
-use Rattle.register.specs.declared.Opened.{Opened}
 use Rattle.register.specs.Register.{fits, opened, fresh_of, fresh_nodes, fresh_entries, fresh_counters}
 use Rattle.sixteen.specs.declared.Register.{Register}
 use Rattle.sixteen.specs.Sixteen.{Left, served, serve_of, fresh_register}
@@ -108,7 +107,7 @@ pub record Runs (o : Outcome) : Type 0 where
   pub fits : bytes ≤ 180224
 
 fresh_fits : (ns es : List ℕ) → length ns ≡ 3072 → length es ≡ 8192 →
-    fresh_of small ns es ≡ opened (fresh_nodes ns) (fresh_entries es) (Opened.Ready fresh_counters)
+    fresh_of small ns es ≡ opened (fresh_nodes ns) (fresh_entries es) (Ok fresh_counters)
 unfolding fresh_of fits
 fresh_fits ns es n e = rw (eq-eqb (length ns) 3072 n, eq-eqb (length es) 8192 e)
 
@@ -123,7 +122,7 @@ runs_always input ns es out n e o =
     whole : Outcome
     whole =
         cond (ltb 16384 (length input)) (finished (write_at out 0 (ran ns es (refused_line too_long))))
-        (from_fresh small input out (opened (fresh_nodes ns) (fresh_entries es) (Opened.Ready fresh_counters)))
+        (from_fresh small input out (opened (fresh_nodes ns) (fresh_entries es) (Ok fresh_counters)))
 
     long : 16384 < length input → Runs whole
     long h =

@@ -1,5 +1,6 @@
 -- Each way out of the whole run, and what its parts ask for.
 -- In order: room; the ways out. Assumes nothing.
+use Rattle.std.specs.Prelude.{Result}
 use Prim.Native.Nat.{ℕ, ◌+◌, ◌*◌, ◌≤◌, ◌<◌}
 use mathlib.Core.Path.{◌≡◌}
 use mathlib.Core.List.{List}
@@ -14,7 +15,6 @@ use Rattle.text.proofs.Basics.{split}
 use Rattle.terms.specs.declared.Size.{Size}
 use Rattle.terms.specs.declared.Counters.{Counters}
 use Rattle.terms.specs.declared.Refusal.{Refusal}
-use Rattle.register.specs.declared.Opened.{Opened}
 use Rattle.register.specs.Register.{opened, fresh_of}
 use Rattle.sixteen.specs.Sixteen.{fresh_register}
 use Rattle.lines.specs.Lines.{refused_line, too_long}
@@ -51,16 +51,16 @@ module _ (z : Size) (input ns es out : List ℕ) (k : ℕ) (asked : k ≡ room_f
     too_long_lem out' r j h b puts =
         rw (← asked, le-ltb (length out) k room, lt-ltb 16384 (length input) (omega arith), puts.0, puts.1)
 
-    module _ (within : length input ≤ 16384) (ns₁ es₁ : List ℕ) (o : Opened)
+    module _ (within : length input ≤ 16384) (ns₁ es₁ : List ℕ) (o : Result Counters Refusal)
         (fresh : opened ns₁ es₁ o ≡ fresh_of z ns es) where
-      pub ran_through : (c : Counters) (ns₂ es₂ out₂ : List ℕ) (r : ℕ) → o ≡ Opened.Ready c →
+      pub ran_through : (c : Counters) (ns₂ es₂ out₂ : List ℕ) (r : ℕ) → o ≡ Ok c →
           wrote ns₂ es₂ out₂ r ≡ write_at out 0 (lines_run (lines_of input) z ns₁ es₁ (fresh_register c)) →
           outcome ns₂ es₂ out₂ (Ok r) ≡ run_of z input ns es out
       unfolding run_of
       ran_through c ns₂ es₂ out₂ r ready did =
           rw (← asked, le-ltb (length out) k room, le-ltb 16384 (length input) within, ← fresh, ready, ← did)
 
-      pub bad_table : (why : Refusal) → o ≡ Opened.Refused why →
+      pub bad_table : (why : Refusal) → o ≡ Err why →
           outcome ns₁ es₁ out (Err Unrun.BadTable) ≡ run_of z input ns es out
       unfolding run_of
       bad_table why refused =

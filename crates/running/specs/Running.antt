@@ -7,7 +7,6 @@ use Rattle.std.specs.Prelude.{ℕ, ◌+◌, ◌*◌, List, [], ◌++◌, cond, l
 use Rattle.std.proofs.lemmas.List.Edits.{sets}
 use Rattle.text.specs.Text.{Lines, over, torn, line, lines_of}
 use Rattle.terms.specs.declared.Size.{Size}
-use Rattle.register.specs.declared.Opened.{Opened}
 use Rattle.register.specs.Register.{Fresh, opened, fresh_of}
 use Rattle.sixteen.specs.declared.Call.{Call}
 use Rattle.sixteen.specs.declared.Register.{Register}
@@ -79,9 +78,9 @@ abbrev pub finished : Wrote → Outcome
 finished (wrote ns es out length) = outcome ns es out (Ok length)
 
 abbrev pub from_fresh : Size → List ℕ → List ℕ → Fresh → Outcome
-from_fresh z input out (opened ns es (Opened.Ready c)) =
+from_fresh z input out (opened ns es (Ok c)) =
     finished (write_at out 0 (lines_run (lines_of input) z ns es (fresh_register c)))
-from_fresh z input out (opened ns es (Opened.Refused why)) = outcome ns es out (Err Unrun.BadTable)
+from_fresh z input out (opened ns es (Err why)) = outcome ns es out (Err Unrun.BadTable)
 
 -- in this order: no room, too long, a table of another length
 unfoldable pub run_of : Size → List ℕ → List ℕ → List ℕ → List ℕ → Outcome

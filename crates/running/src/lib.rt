@@ -15,7 +15,6 @@ ghost use Rattle.running.specs.Running.{caller_of, lines_run, wrote, write_at, r
 ghost use Rattle.running.specs.OneRecord.{slot_of, call_of, turned, turn_of};
 ghost use Rattle.running.specs.OneLine.{read_at};
 
-use register::Opened;
 use sixteen::Call;
 use steps::{Session, Stepped};
 use terms::Counters;
@@ -152,7 +151,7 @@ pub fn run(
         return Ok(lines::print_refusal(out, 0, 14));
     }
     match register::fresh(nodes, entries) {
-        Opened::Ready(c) => Ok(serve_lines(input, nodes, entries, out, c)),
-        Opened::Refused(_) => Err(Unrun::BadTable),
+        Ok(c) => Ok(serve_lines(input, nodes, entries, out, c)),
+        Err(_) => Err(Unrun::BadTable),
     }
 }

@@ -1,6 +1,7 @@
 -- The words of a fresh register show the beginning of the drawing, with the empty set at stamp 0.
 -- In order: what a fresh register's words are; its two nodes; its one entry; all of it.
 -- Not here: any call. Assumes nothing.
+use Rattle.std.specs.Prelude.{Result, Ok, Err}
 use Prim.Native.Nat.{ℕ, ◌+◌, ◌*◌, ◌<◌}
 use mathlib.Core.Path.{◌≡◌, refl, sym, ◌∙◌, ap}
 use mathlib.Core.Logic.{◌⊎◌, inl, inr, ◌≢◌}
@@ -26,7 +27,6 @@ use Rattle.terms.specs.declared.Size.{Size}
 use Rattle.terms.specs.declared.Counters.{Counters}
 use Rattle.terms.specs.declared.Refusal.{Refusal}
 use Rattle.steps.specs.Steps
-use Rattle.register.specs.declared.Opened.{Opened}
 use Rattle.register.specs.Register.{fits, Fresh, opened, fresh_nodes, fresh_entries, fresh_counters, fresh_of}
 use Rattle.sixteen.specs.Sixteen.{fresh_register}
 use Rattle.reached.specs.Reached.{no_past}
@@ -43,7 +43,7 @@ nodes_in (opened ns es o) = ns
 abbrev entries_in : Fresh → List ℕ
 entries_in (opened ns es o) = es
 
-abbrev opened_in : Fresh → Opened
+abbrev opened_in : Fresh → Result Counters Refusal
 opened_in (opened ns es o) = o
 
 pub record Ready (z : Size) (ns es ns' es' : List ℕ) (c : Counters) : Type 0 where
@@ -59,7 +59,7 @@ and_true true false e = (refl, e)
 and_true false b e = (e, let z : ◌≡◌ {A = ℕ} 0 1 = cc in absurd (omega arith))
 
 ready_is : (z : Size) (ns es ns' es' : List ℕ) (c : Counters) → fits z ns es ≡ true
-    → opened (fresh_nodes ns) (fresh_entries es) (Opened.Ready fresh_counters) ≡ opened ns' es' (Opened.Ready c)
+    → opened (fresh_nodes ns) (fresh_entries es) (Ok fresh_counters) ≡ opened ns' es' (Ok c)
     → Ready z ns es ns' es' c
 unfolding fits
 ready_is z ns es ns' es' c fit e = let both = and_true _ _ fit in record {
@@ -67,21 +67,21 @@ ready_is z ns es ns' es' c fit e = let both = and_true _ _ fit in record {
   whole_entries = eqb-true _ _ both.1;
   nodes = sym (ap nodes_in e);
   entries = sym (ap entries_in e);
-  counters = sym (let o : Opened.Ready fresh_counters ≡ Opened.Ready c = ap opened_in e in cc);
+  counters = sym (let o : ◌≡◌ {A = Result Counters Refusal} (Ok fresh_counters) (Ok c) = ap opened_in e in cc);
 }
 
 not_ready : (z : Size) (ns es ns' es' : List ℕ) (c : Counters)
-    → opened ns es (Opened.Refused Refusal.BadTable) ≡ opened ns' es' (Opened.Ready c) → Ready z ns es ns' es' c
+    → opened ns es (Err Refusal.BadTable) ≡ opened ns' es' (Ok c) → Ready z ns es ns' es' c
 not_ready z ns es ns' es' c e =
-    let o : Opened.Refused Refusal.BadTable ≡ Opened.Ready c = ap opened_in e in
+    let o : ◌≡◌ {A = Result Counters Refusal} (Err Refusal.BadTable) (Ok c) = ap opened_in e in
     let z : ◌≡◌ {A = ℕ} 0 1 = cc in
     absurd (omega arith)
 
-pub ready : (z : Size) (ns es ns' es' : List ℕ) (c : Counters) → fresh_of z ns es ≡ opened ns' es' (Opened.Ready c)
+pub ready : (z : Size) (ns es ns' es' : List ℕ) (c : Counters) → fresh_of z ns es ≡ opened ns' es' (Ok c)
     → Ready z ns es ns' es' c
 unfolding fresh_of
 ready z ns es ns' es' c =
-    cond_cases (λ o. o ≡ opened ns' es' (Opened.Ready c) → Ready z ns es ns' es' c) (fits z ns es) _ _
+    cond_cases (λ o. o ≡ opened ns' es' (Ok c) → Ready z ns es ns' es' c) (fits z ns es) _ _
     (ready_is z ns es ns' es' c) (λ _. not_ready z ns es ns' es' c)
 
 -- ---- cleared words
@@ -221,7 +221,7 @@ fresh_is ns es nodes entries key val A =
       tells = record { updates = refl; under = λ t. refl; since = λ t. refl; handed = λ t. tt };
     }
 
-pub fresh_shows : (ns es ns' es' : List ℕ) (c : Counters) → fresh_of small ns es ≡ opened ns' es' (Opened.Ready c)
+pub fresh_shows : (ns es ns' es' : List ℕ) (c : Counters) → fresh_of small ns es ≡ opened ns' es' (Ok c)
     → (key val : ℕ → ℕ) → Agrees key val c.nodes ns'
     → Shown small key val (record { nodes = ns'; entries = es'; register = fresh_register c }) no_past
     (beginning empty)

@@ -1,2 +1,0 @@
--- Each way through the public calls.
-pub mod Ways
