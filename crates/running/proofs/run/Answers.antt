@@ -14,8 +14,8 @@ returns-then-input-gt16384 c = search ways
 pub serve_lines-requires : goal.serve_lines-requires
 serve_lines-requires c = search enough
 
-pub returns-in-Ready : goal.returns-in-Ready
-returns-in-Ready c = search ways
+pub returns-in-Ok : goal.returns-in-Ok
+returns-in-Ok c = search ways
 
-pub returns-in-Refused : goal.returns-in-Refused
-returns-in-Refused c = search ways
+pub returns-in-Err : goal.returns-in-Err
+returns-in-Err c = search ways
