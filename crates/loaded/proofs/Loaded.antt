@@ -3,14 +3,13 @@
 -- In order: a size with room; what loading answers; the calls' numbers; the theorem, for any size; reached; the set;
 -- the same for document 01's size; P12.
 -- Assumes nothing.
-use Rattle.std.specs.Prelude.{Err}
 use Prim.Native.Nat.{ℕ, zero, suc, ◌+◌, ◌≤◌}
 use mathlib.Core.Path.{◌≡◌, refl, sym, ◌∙◌, ap, fun_ext}
 use mathlib.Core.Bool.{Bool, true, false, cond}
 use mathlib.Core.List.{List, [], ◌∷◌, ◌++◌, append-nil}
 use native.Mathlib.Omega.{arith}
 use lib.ListN.{length, replicate}
-use Rattle.std.specs.Prelude.{Ok}
+use Rattle.std.specs.Prelude.{Ok, Err}
 use Rattle.order.specs.Set.{key_of, Rises, set_after}
 use Rattle.order.proofs.Sets.{set_rises}
 use Rattle.terms.specs.Terms.{small}
