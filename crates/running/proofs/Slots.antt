@@ -19,7 +19,6 @@ use Rattle.terms.specs.declared.Refusal.{Refusal}
 use Rattle.steps.specs.declared.Session.{Session}
 use Rattle.steps.specs.declared.Stepped.{Stepped}
 use Rattle.steps.specs.Steps.{Done, done, idle, refuses}
-use Rattle.register.specs.declared.Started.{Started}
 use Rattle.register.specs.Register.{fits, keeps, start_of, step_of}
 use Rattle.sixteen.specs.declared.Register.{Register}
 use Rattle.sixteen.specs.declared.Call.{Call}
@@ -27,7 +26,7 @@ use Rattle.sixteen.specs.Sixteen.{session_of, with, Left, served, after_step, se
 use Rattle.running.specs.Running.{caller_of}
 use Rattle.lines.specs.Lines.{answer_line}
 use Rattle.lines.proofs.Room.{answer_length}
-use Rattle.running.specs.OneRecord.{slot_of, begun, call_of, turned, turn_of}
+use Rattle.running.specs.OneRecord.{slot_of, call_of, turned, turn_of}
 
 -- ---- a record put back as it was
 

@@ -2,7 +2,7 @@
 -- That the run over all lines begins with it is a law (proofs/OneLine.antt). Assumes nothing.
 use Rattle.std.specs.Prelude.{ℕ, ◌+◌, ◌-◌, List, cond, length, take, drop, ltb}
 use Rattle.text.specs.Text.{line_length}
-use Rattle.std.specs.Prelude.{Option, Some, None}
+use Rattle.std.specs.Prelude.{Option, None}
 use Rattle.sixteen.specs.declared.Call.{Call}
 use Rattle.lines.specs.Lines.{line_in}
 

@@ -1,8 +1,8 @@
 // The whole runner as one function (document 01, "The runner"): from an input and two lent tables to an output and
 // its length.
-// In order: what a run answers; a call and its session's record; a turn; the room a run needs; one line; the lines;
-// the run.
-// The sixteen records stay where they are in `serve_lines`: each line takes one out and puts one back.
+// In order: numbers; why a run writes nothing; a call and its session's record; a turn; the room a run needs; one line;
+// the lines; the run.
+// The sixteen records stay where they are in `serve_lines`: each call is lent one.
 // Not here: lines and answers (crate lines), reading and writing files (crates runner and cases). Assumes nothing.
 #![tactic(auto)]
 
@@ -18,6 +18,15 @@ ghost use Rattle.running.specs.OneLine.{read_at};
 use sixteen::Call;
 use steps::{Session, Stepped};
 use terms::Counters;
+
+// The longest input that is run, in bytes.
+const LONGEST: usize = 16384;
+
+// Document 01's number of a line that is no call.
+const BAD_LINE: u32 = 13;
+
+// And of input that is longer.
+const TOO_LONG: u32 = 14;
 
 // Why a run writes nothing: the output is too short, or a lent table has another length.
 #[derive(Clone, Copy)]
@@ -84,19 +93,19 @@ fn turn(
 fn room(n: usize) -> usize
     ensures { result ≡ room_for n }
 {
-    if n <= 16384 { 11 * n } else { 11 }
+    if n <= LONGEST { 11 * n } else { 11 }
 }
 
-// The line at `place`, without its byte 10, and the place after both. A last line without byte 10 is bad, whatever it
-// says.
+// The call that the line at `place` is, if it is one, and the place after its byte 10. A last line without byte 10 is
+// none, whatever it says.
 fn line_at(input: &[u8], place: usize) -> (Option<Call>, usize)
     requires { place ≤ length input.now }
     ensures { result ≡ read_at input.now place }
 {
     let e = text::line_end(input, place);
-    let line = lines::read_line(&input[place..e]);
+    let call = lines::read_line(&input[place..e]);
     if e < input.len() {
-        return (line, e + 1);
+        return (call, e + 1);
     }
     (None, e)
 }
@@ -119,11 +128,11 @@ fn serve_lines(
     let mut place = 0;
     let mut at = 0;
     while place < input.len() {
-        let (line, next) = line_at(input, place);
+        let (call, next) = line_at(input, place);
         place = next;
-        match line {
+        match call {
             None => {
-                at = lines::print_refusal(out, at, 13);
+                at = lines::print_refusal(out, at, BAD_LINE);
             }
             Some(call) => {
                 let session = &mut sessions[slot(call)];
@@ -147,8 +156,8 @@ pub fn run(
     if out.len() < room(input.len()) {
         return Err(Unrun::NoRoom);
     }
-    if 16384 < input.len() {
-        return Ok(lines::print_refusal(out, 0, 14));
+    if LONGEST < input.len() {
+        return Ok(lines::print_refusal(out, 0, TOO_LONG));
     }
     match register::fresh(nodes, entries) {
         Ok(c) => Ok(serve_lines(input, nodes, entries, out, c)),

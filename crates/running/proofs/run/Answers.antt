@@ -8,8 +8,8 @@ returns-then-out-room c = search ways
 pub print_refusal-requires : goal.print_refusal-requires
 print_refusal-requires c = search enough
 
-pub returns-then-input-gt16384 : goal.returns-then-input-gt16384
-returns-then-input-gt16384 c = search ways
+pub returns-then-input-gt-LONGEST : goal.returns-then-input-gt-LONGEST
+returns-then-input-gt-LONGEST c = search ways
 
 pub serve_lines-requires : goal.serve_lines-requires
 serve_lines-requires c = search enough
