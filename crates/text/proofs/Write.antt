@@ -174,7 +174,8 @@ last_digit n h b ih =
     let small : n % 10 < 10 = mod-lt n (omega arith) in
     let some : (n / 10 ≡ 0 → ⊥) = λ z. omega (arith, div-add-mod' n 10) in
     let all : n / 10 * 10 + n % 10 ≡ n = div-add-mod' n 10 in
-    rw (more_digits n h w, grows_append None (digits (n / 10)) _ (n / 10) ih, digit_class (n % 10) small, ne_eqb (n / 10) 0 some)
+    let before = grows_append None (digits (n / 10)) ((48 + n % 10) ∷ []) (n / 10) ih in
+    rw (more_digits n h w, before, digit_class (n % 10) small, ne_eqb (n / 10) 0 some)
     (rw (all, le-leb n largest b))
 
 read_back_in : (f n : ℕ) → n < 10 ^ f → n ≤ largest → grows None (digits n) ≡ Some n
