@@ -1,5 +1,5 @@
 -- The pairs that may be written: each way through their test, and what the test says in document 01's words.
--- In order: rising keys, one by one; the test's ways out; what it says; that it says all of `Good`.
+-- In order: rising keys, one by one; the test; what it says; that it says all of `Good`.
 -- Assumes nothing.
 use Prim.Native.Nat.{ℕ, zero, suc, ◌+◌, ◌≤◌, ◌<◌}
 use mathlib.Core.Path.{◌≡◌, refl, sym}
@@ -12,7 +12,7 @@ use native.Mathlib.Numerals.{add-one}
 use lib.ListN.{length, get_or, drop, drop_of_length-le, get_or-eq_default}
 use lib.Seq.{drop-cons}
 use lib.Dec.{eqb, leb}
-use borrow.Author.Tests.{le-leb, lt-leb, eq-eqb, ne_eqb, eqb-true, leb-true, leb-false}
+use borrow.Author.Tests.{le-leb, lt-leb, eq-eqb, eqb-true, leb-true, leb-false}
 use Rattle.text.specs.Text.{largest}
 use Rattle.text.proofs.Basics.{impossible, split}
 use Rattle.listing.specs.Listing.{rising, good_pairs}
@@ -51,16 +51,6 @@ module _ (most : ℕ) (ks vs : List ℕ) where
   pub good_rise : (r : Bool) → length ks ≡ length vs → length ks ≤ most → r ≡ rising 0 ks → r ≡ good_pairs most ks vs
   unfolding good_pairs
   good_rise r e h k = rw (eq-eqb (length ks) (length vs) e, le-leb (length ks) most h, k)
-
-  pub bad_many : length ks ≡ length vs → most < length ks → false ≡ good_pairs most ks vs
-  unfolding good_pairs
-  bad_many e h = rw (eq-eqb (length ks) (length vs) e, lt-leb (length ks) most h)
-
-  pub bad_lengths : (length ks ≡ length vs → ⊥) → false ≡ good_pairs most ks vs
-  unfolding good_pairs
-  bad_lengths e = rw (ne_eqb (length ks) (length vs) e)
-
-pub ruleset good = (good_rise, bad_many, bad_lengths)
 
 -- ---- what it says
 

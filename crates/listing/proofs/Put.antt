@@ -1,24 +1,20 @@
 -- Writing: a line, a pair, pairs, the listing: their bytes, their sizes, each store at its place.
--- In order: a line; a pair; pairs; their size; the listing; each way out of `write`.
+-- In order: a line; a pair; pairs; their size; the listing; the pairs that `write` hands on.
 -- Not here: the pairs that may be written (Pairs), how long a listing can be (Length). Assumes nothing.
 use Prim.Native.Nat.{ℕ, ◌+◌, ◌*◌, ◌≤◌, ◌<◌}
 use mathlib.Core.Path.{◌≡◌, refl, sym, ◌∙◌, ap}
 use mathlib.Core.List.{List, [], ◌∷◌, ◌++◌}
 use mathlib.Core.Logic.{◌⊎◌, inl, inr}
-use mathlib.Core.Bool.{Bool, true, false}
+use mathlib.Core.Bool.{Bool, true}
 use native.Mathlib.Omega.{arith}
-use native.Mathlib.Nat.{le_of_lt}
 use lib.ListN.{length, set, length-append}
 use lib.Seq.{sets}
 use lib.Dec.{lit≤}
-use borrow.Author.Tests.{le-leb, lt-leb}
-use Rattle.std.specs.Prelude.{Ok, Err}
 use Rattle.text.specs.Text.{digits, Puts}
 use Rattle.text.proofs.Write.{sets_append, short, one_digit}
 use Rattle.listing.specs.Listing.{edition_name, stamp_name, key_name, value_name, count_name}
 use Rattle.listing.specs.Listing.{field_of, pair_of, pairs, head_of, body_of, listing_of}
-use Rattle.listing.specs.Listing.{good_pairs, done, write_of}
-use Rattle.listing.specs.declared.Unwritten.{Unwritten}
+use Rattle.listing.specs.Listing.{good_pairs}
 use Rattle.listing.proofs.Pairs.{good_counts}
 
 -- ---- a field
@@ -186,7 +182,7 @@ listing_fits_3 stamp w e = omega (arith, short stamp)
 
 pub ruleset listing_sizes = (listing_size, listing_fits, listing_fits_2, listing_fits_3)
 
--- ---- each way out of `write`
+-- ---- the pairs that `write` hands on
 
 module _ (most : ℕ) (ks vs : List ℕ) (g : Bool) (f : g ≡ good_pairs most ks vs) (y : g ≡ true) where
   pub good_same : length ks ≡ length vs
@@ -195,24 +191,5 @@ module _ (most : ℕ) (ks vs : List ℕ) (g : Bool) (f : g ≡ good_pairs most k
   pub good_few : most ≤ 65536 → length ks ≤ 65536
   good_few room = let h = good_counts most ks vs (sym f ∙ y) in omega arith
 
-  module _ (stamp n : ℕ) (o : List ℕ) (e : n ≡ length (listing_of stamp ks vs)) where
-    pub write_all : (l : List ℕ) (r : ℕ) → n ≤ length o → r ≡ 0 + length (listing_of stamp ks vs) →
-        l ≡ sets o 0 (listing_of stamp ks vs) → done l (Ok r) ≡ write_of most stamp ks vs o
-    unfolding write_of
-    write_all l r h er k = let z : r ≡ n = omega arith in rw (← f, y, ← e, le-leb n (length o) h, k, z)
-
-    pub write_no_room : length o < n → done o (Err Unwritten.NoRoom) ≡ write_of most stamp ks vs o
-    unfolding write_of
-    write_no_room h = rw (← f, y, ← e, lt-leb n (length o) h)
-
-pub write_room : (stamp n : ℕ) (ks vs o : List ℕ) → n ≡ length (listing_of stamp ks vs) → n ≤ length o →
-    0 + length (listing_of stamp ks vs) ≤ length o
-write_room stamp n ks vs o e h = omega arith
-
-pub write_bad : (most : ℕ) (ks vs : List ℕ) (g : Bool) → g ≡ good_pairs most ks vs → g ≡ false →
-    (stamp : ℕ) (o : List ℕ) → done o (Err Unwritten.BadPairs) ≡ write_of most stamp ks vs o
-unfolding write_of
-write_bad most ks vs g f y stamp o = rw (← f, y)
-
--- a room compared by `<`, and a number of keys that is written out, are as good
-pub ruleset writes = (le_of_lt, lit≤, good_same, good_few, write_all, write_no_room, write_room, write_bad)
+-- a number of keys that is written out is as good
+pub ruleset writes = (lit≤, good_same, good_few)

@@ -84,6 +84,7 @@ fn put_listing(out: &mut [u8], place: usize, stamp: u32, listed: &Listed) -> usi
 }
 
 // How many bytes a pair takes.
+#[tactic(auto, using(crate::proofs::Put::pair_sizes))]
 fn pair_size(k: u32, v: u32) -> usize
     ensures { result ≡ length (pair_of k v) }
 {
@@ -122,6 +123,7 @@ fn rises(keys: &[u32]) -> bool
     true
 }
 
+#[tactic(auto, unfolding(crate::specs::Listing::good_pairs))]
 fn good_pairs(most: u32, keys: &[u32], values: &[u32]) -> bool
     ensures { result ≡ good_pairs most keys.now values.now }
 {
@@ -130,6 +132,7 @@ fn good_pairs(most: u32, keys: &[u32], values: &[u32]) -> bool
 
 // Writes a listing of a stamp, keys and values, as those that a range over all keys hands out with its snapshot, and
 // answers its length. A refusal changes nothing, and no byte past the length changes.
+#[tactic(auto, unfolding(crate::specs::Listing::write_of))]
 pub fn write(stamp: u32, keys: &[u32], values: &[u32], out: &mut [u8]) -> Result<usize, Unwritten>
     ensures { done out.new result ≡
         write_of key_room stamp keys.now values.now out.old }

@@ -1,5 +1,5 @@
 -- Each way out of `load`, over plain values; and what reading hands to it.
--- In order: the keys and values that reading gave; a register, or a refusal of the listing; the lengths first.
+-- In order: the keys and values that reading gave; a register, or a refusal of the listing.
 -- Not here: the tables' words (Words). Assumes nothing.
 use Prim.Native.Nat.{ℕ, ◌+◌, ◌≤◌, ◌<◌}
 use mathlib.Core.Path.{◌≡◌, sym, ◌∙◌}
@@ -7,7 +7,7 @@ use mathlib.Core.List.{List}
 use native.Mathlib.Omega.{arith}
 use lib.ListN.{length, take}
 use lib.Seq.{sets, sets-eq, take-append_seam, length-sets, length-take-le}
-use mathlib.Core.Bool.{Bool, true, false}
+use mathlib.Core.Bool.{true}
 use Rattle.std.specs.Prelude.{Result, Ok, Err}
 use Rattle.terms.specs.Terms.{small}
 use Rattle.terms.specs.declared.Size.{Size}
@@ -123,15 +123,3 @@ module _ (z : Size) (s ns es : List ℕ) (fit : fits z ns es ≡ true) (ko vo ks
   load_refused e u h k = let answer = sym (read_checks z.keys s ko vo ks vs r told) ∙ h in rw (fit, answer, k)
 
 pub ruleset loads = (load_whole, load_refused)
-
--- ---- the tables' lengths first
-
-module _ (z y : Size) (s ns es : List ℕ) (b : Bool) (size : y ≡ z) (test : b ≡ fits y ns es) where
-  pub right_tables : b ≡ true → fits z ns es ≡ true
-  right_tables h = rw (← size, ← test, h)
-
-  pub bad_tables : b ≡ false → done (tables ns es) (Err Unloaded.BadTable) ≡ load_of z s ns es
-  unfolding load_of
-  bad_tables h = rw (← size, ← test, h)
-
-pub ruleset tables_first = (right_tables, bad_tables)

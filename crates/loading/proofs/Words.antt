@@ -11,26 +11,17 @@ use native.Mathlib.Omega.{arith}
 use lib.ListN.{length}
 use lib.Dec.{eqb}
 use borrow.Author.Tests.{eq-eqb, ne_eqb}
-use Rattle.bundle.specs.Bundle.{lay_of, finish_of}
-use Rattle.nodes.specs.Nodes.{put_node, newest_at, unlocked, new_node}
 use Rattle.terms.specs.declared.Size.{Size}
-use Rattle.terms.specs.declared.Counters.{Counters}
 use Rattle.steps.specs.Steps.{Tables, tables}
 use Rattle.register.specs.Register.{fits, fresh_nodes, fresh_entries, fresh_counters, fresh_of, opened}
-use Rattle.loading.specs.Filing.{used, pred_of, prepared_nodes, filed_nodes}
-use Rattle.loading.specs.Filing.{prepared_entries, filed_entries, filed, filed_all, fresh_tables}
+use Rattle.loading.specs.Filing.{pred_of}
+use Rattle.loading.specs.Filing.{filed, filed_all, fresh_tables}
 
 -- ---- one key more
-
-pub pred_head : (i : ℕ) → i ≡ 0 → 0 ≡ pred_of i
-unfolding pred_of
-pred_head i e = rw (eq-eqb i 0 e)
 
 pub pred_key : (i : ℕ) → (i ≡ 0 → ⊥) → i + 1 ≡ pred_of i
 unfolding pred_of
 pred_key i e = rw (ne_eqb i 0 e)
-
-pub ruleset preds = (pred_head, pred_key)
 
 pub pred_below : (i : ℕ) → pred_of i ≤ i + 1
 unfolding pred_of
@@ -39,43 +30,6 @@ pred_below i = by (eqb i 0)
     by : (t : Bool) → cond t 0 (i + 1) ≤ i + 1
     by true = omega arith
     by false = omega arith
-
-module _ (c : Counters) where
-  pub prepares_node : (pred k v : ℕ) (l m₁ m₂ m₃ : List ℕ) → m₁ ≡ new_node l c.nodes k v 1 →
-      m₂ ≡ put_node m₁ pred 5 (c.entries + 1) → m₃ ≡ put_node m₂ c.nodes 5 (c.entries + 2) →
-      m₃ ≡ prepared_nodes c pred k v l
-  unfolding prepared_nodes
-  prepares_node pred k v l m₁ m₂ m₃ h₁ h₂ h₃ = rw (h₃, h₂, h₁)
-
-  pub files_node : (pred k v : ℕ) (l m₁ m₂ m₃ : List ℕ) → m₁ ≡ prepared_nodes c pred k v l →
-      m₂ ≡ put_node m₁ pred 2 c.nodes → m₃ ≡ unlocked m₂ pred → m₃ ≡ filed_nodes c pred k v l
-  unfolding filed_nodes
-  files_node pred k v l m₁ m₂ m₃ h₁ h₂ h₃ = rw (h₃, h₂, h₁)
-
-  pub prepares_entries : (older : ℕ) (l m₁ m₂ : List ℕ) → m₁ ≡ lay_of l c.entries c.nodes c.stamp older →
-      m₂ ≡ lay_of m₁ (c.entries + 1) 1 c.stamp 0 → m₂ ≡ prepared_entries c older l
-  unfolding prepared_entries
-  prepares_entries older l m₁ m₂ h₁ h₂ = rw (h₂, h₁)
-
-  pub files_entries : (older : ℕ) (l m₁ m₂ m₃ : List ℕ) → m₁ ≡ prepared_entries c older l →
-      m₂ ≡ finish_of m₁ c.entries (c.stamp + 1) → m₃ ≡ finish_of m₂ (c.entries + 1) (c.stamp + 1) →
-      m₃ ≡ filed_entries c older l
-  unfolding filed_entries
-  files_entries older l m₁ m₂ m₃ h₁ h₂ h₃ = rw (h₃, h₂, h₁)
-
-  pub files_one : (i p o k v : ℕ) (ns es m n : List ℕ) → c ≡ used i → p ≡ pred_of i → o ≡ newest_at ns p →
-      m ≡ filed_nodes c p k v ns → n ≡ filed_entries c o es → tables m n ≡ filed i k v (tables ns es)
-  files_one i p o k v ns es m n e h older a b = rw (a, b, older, e, h)
-
-  -- what the writers ask of the counters
-  module _ (i : ℕ) (e : c ≡ used i) (small : i < 65536) where
-    pub entries_room : c.entries + 2 ≤ 4294967295
-    entries_room = rw e (omega arith)
-
-    pub stamp_room : c.stamp + 1 ≤ 4294967295
-    stamp_room = rw e (omega arith)
-
-pub ruleset files = (prepares_node, files_node, prepares_entries, files_entries, files_one, entries_room, stamp_room)
 
 -- ---- all keys: those that are left, from the i-th on, make the whole
 

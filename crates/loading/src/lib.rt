@@ -49,6 +49,7 @@ fn count_used(i: u32) -> Counters
 }
 
 // The node of the last of i keys, or the head.
+#[tactic(auto, unfolding(crate::specs::Filing::pred_of))]
 fn pred(i: u32) -> u32
     requires { i < 65536 }
     ensures { result ≡ pred_of i }
@@ -56,49 +57,69 @@ fn pred(i: u32) -> u32
     if i == 0 { 0 } else { i + 1 }
 }
 
-// What an insert's Prepare between pred and the tail writes: the new node, and both bundles' newest entries.
-fn prepare_node(nodes: &mut [u32], c: Counters, pred: u32, key: u32, value: u32)
-    requires { c.entries + 2 ≤ 4294967295 }
-    ensures { nodes.new ≡ prepared_nodes c pred key value nodes.old }
+// The end of the list, where the next key is filed: the counters, and the node before the tail.
+#[derive(Clone, Copy)]
+struct End {
+    counters: Counters,
+    pred: u32,
+    ghost entries_fit: { counters.entries + 2 ≤ 4294967295 },
+    ghost stamp_fits: { counters.stamp + 1 ≤ 4294967295 },
+}
+
+// After i keys.
+fn end_after(i: u32) -> End
+    requires { i < 65536 }
+    ensures { (result.counters ≡ used i) × (result.pred ≡ pred_of i) }
 {
-    let n = c.nodes;
-    let e = c.entries;
+    End {
+        counters: count_used(i),
+        pred: pred(i),
+    }
+}
+
+// What an insert's Prepare there writes: the new node, and both bundles' newest entries.
+#[tactic(auto, unfolding(crate::specs::Filing::prepared_nodes))]
+fn prepare_node(nodes: &mut [u32], end: End, key: u32, value: u32)
+    ensures { nodes.new ≡ prepared_nodes end.counters end.pred key value nodes.old }
+{
+    let n = end.counters.nodes;
+    let e = end.counters.entries;
     nodes::new_node(nodes, n, key, value, 1);
-    nodes::put(nodes, pred, NEWEST, e + 1);
+    nodes::put(nodes, end.pred, NEWEST, e + 1);
     nodes::put(nodes, n, NEWEST, e + 2);
 }
 
 // And what its Link and its Finish write.
-fn file_node(nodes: &mut [u32], c: Counters, pred: u32, key: u32, value: u32)
-    requires { c.entries + 2 ≤ 4294967295 }
-    ensures { nodes.new ≡ filed_nodes c pred key value nodes.old }
+#[tactic(auto, unfolding(crate::specs::Filing::filed_nodes))]
+fn file_node(nodes: &mut [u32], end: End, key: u32, value: u32)
+    ensures { nodes.new ≡ filed_nodes end.counters end.pred key value nodes.old }
 {
-    let n = c.nodes;
-    prepare_node(nodes, c, pred, key, value);
-    nodes::put(nodes, pred, NEXT, n);
-    nodes::unlock(nodes, pred);
+    let n = end.counters.nodes;
+    prepare_node(nodes, end, key, value);
+    nodes::put(nodes, end.pred, NEXT, n);
+    nodes::unlock(nodes, end.pred);
 }
 
 // The two entries that its Prepare lays.
-fn prepare_entries(entries: &mut [u32], c: Counters, older: u32)
-    requires { c.entries + 2 ≤ 4294967295 }
-    ensures { entries.new ≡ prepared_entries c older entries.old }
+#[tactic(auto, unfolding(crate::specs::Filing::prepared_entries))]
+fn prepare_entries(entries: &mut [u32], end: End, older: u32)
+    ensures { entries.new ≡ prepared_entries end.counters older entries.old }
 {
-    let n = c.nodes;
-    let e = c.entries;
-    let stamp = c.stamp;
+    let n = end.counters.nodes;
+    let e = end.counters.entries;
+    let stamp = end.counters.stamp;
     bundle::lay(entries, e, n, stamp, older);
     bundle::lay(entries, e + 1, 1, stamp, 0);
 }
 
 // And its Finish numbers.
-fn file_entries(entries: &mut [u32], c: Counters, older: u32)
-    requires { (c.entries + 2 ≤ 4294967295) × (c.stamp + 1 ≤ 4294967295) }
-    ensures { entries.new ≡ filed_entries c older entries.old }
+#[tactic(auto, unfolding(crate::specs::Filing::filed_entries))]
+fn file_entries(entries: &mut [u32], end: End, older: u32)
+    ensures { entries.new ≡ filed_entries end.counters older entries.old }
 {
-    let e = c.entries;
-    let stamp = c.stamp;
-    prepare_entries(entries, c, older);
+    let e = end.counters.entries;
+    let stamp = end.counters.stamp;
+    prepare_entries(entries, end, older);
     bundle::finish(entries, e, stamp + 1);
     bundle::finish(entries, e + 1, stamp + 1);
 }
@@ -109,11 +130,10 @@ fn file(nodes: &mut [u32], entries: &mut [u32], i: u32, key: u32, value: u32)
     ensures { tables nodes.new entries.new ≡
         filed i key value (tables nodes.old entries.old) }
 {
-    let c = count_used(i);
-    let p = pred(i);
-    let older = nodes::node(nodes, p, NEWEST);
-    file_node(nodes, c, p, key, value);
-    file_entries(entries, c, older);
+    let end = end_after(i);
+    let older = nodes::node(nodes, end.pred, NEWEST);
+    file_node(nodes, end, key, value);
+    file_entries(entries, end, older);
 }
 
 // The tables with all keys, each with the value at its place.
@@ -155,6 +175,7 @@ fn load_into(input: &[u8], nodes: &mut [u32], entries: &mut [u32]) -> Result<Cou
 
 // Reads a listing into the two tables, which then hold what a fresh register holds after inserting the keys in order.
 // A refusal changes nothing.
+#[tactic(auto, unfolding(crate::specs::Loading::load_of))]
 pub fn load(input: &[u8], nodes: &mut [u32], entries: &mut [u32]) -> Result<Counters, Unloaded>
     ensures { done (tables nodes.new entries.new) result ≡
         load_of small input.now nodes.old entries.old }

@@ -1,5 +1,4 @@
 -- The laws of reading that other crates may cite.
-pub mod Order
 pub mod Scan
 pub mod Trip
 pub mod Allowed

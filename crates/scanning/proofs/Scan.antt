@@ -1,6 +1,6 @@
 -- Reading line by line: the loop against the definition over lines; gathering numbers by name.
--- In order: a line of the code against the lines; numbers by name; each way out of `read`.
--- Not here: one line by its name (Order). Assumes nothing.
+-- In order: a line of the code against the lines; numbers by name.
+-- Not here: what one line says (Allowed). Assumes nothing.
 use Prim.Native.Nat.{ℕ, ◌+◌, ◌-◌, ◌≤◌, ◌<◌}
 use mathlib.Core.Path.{◌≡◌, refl, sym, ◌∙◌}
 use mathlib.Core.List.{List}
@@ -12,9 +12,8 @@ use Rattle.text.specs.declared.Seen.{Seen}
 use Rattle.std.specs.Prelude.{Option, Some, None, Result, Ok, Err}
 use Rattle.text.proofs.Lines.{cut_at}
 use Rattle.text.proofs.Write.{sets_append}
-use Rattle.listing.specs.Listing.{key_name, value_name}
 use Rattle.scanning.specs.Reading.{step_of, line_at, on_next, ended_of, scan_of, check_of}
-use Rattle.scanning.specs.Reading.{one, numbers_in, done, read_of}
+use Rattle.scanning.specs.Reading.{one, numbers_in}
 use Rattle.scanning.specs.declared.State.{State}
 use Rattle.scanning.specs.declared.Fault.{Fault}
 use Rattle.scanning.specs.declared.Whole.{Whole}
@@ -114,18 +113,3 @@ pub gather_index : (s : List ℕ) (p i e j : ℕ) (v : Seen) (n : Option ℕ) �
 gather_index s p i e j v n f g h a = let cut = cut_at s p e (sym g ∙ f) in omega (arith, at_most_one n)
 
 pub ruleset gathered = (gather_over, gather_on, gather_index)
-
--- ---- each way out of `read`
-
-module _ (most : ℕ) (s ks vs : List ℕ) (r : Result Whole Unread) (f : r ≡ check_of most s) where
-  pub read_whole : (w : Whole) (k v : List ℕ) → r ≡ Ok w →
-      k ≡ sets ks 0 (numbers_in key_name (lines_of s)) →
-      v ≡ sets vs 0 (numbers_in value_name (lines_of s)) → done k v (Ok w) ≡ read_of most s ks vs
-  unfolding read_of
-  read_whole w k v e ek ev = rw (← f, e, ek, ev)
-
-  pub read_refused : (u : Unread) → r ≡ Err u → done ks vs (Err u) ≡ read_of most s ks vs
-  unfolding read_of
-  read_refused u e = rw (← f, e)
-
-pub ruleset reads_all = (read_whole, read_refused)

@@ -55,6 +55,7 @@ impl Fault {
     }
 }
 
+#[tactic(auto, unfolding(crate::specs::Reading::edition_of))]
 fn edition_line(l: &[u8]) -> Result<State, Fault>
     ensures { result ≡ edition_of l.now }
 {
@@ -64,6 +65,7 @@ fn edition_line(l: &[u8]) -> Result<State, Fault>
     }
 }
 
+#[tactic(auto, unfolding(crate::specs::Reading::stamp_of))]
 fn stamp_line(l: &[u8]) -> Result<State, Fault>
     ensures { result ≡ stamp_of l.now }
 {
@@ -77,6 +79,7 @@ fn stamp_line(l: &[u8]) -> Result<State, Fault>
     }
 }
 
+#[tactic(auto, unfolding(crate::specs::Reading::value_of))]
 fn value_line(stamp: u32, count: u32, last: u32, l: &[u8]) -> Result<State, Fault>
     ensures { result ≡ value_of stamp count last l.now }
 {
@@ -86,6 +89,7 @@ fn value_line(stamp: u32, count: u32, last: u32, l: &[u8]) -> Result<State, Faul
     }
 }
 
+#[tactic(auto, unfolding(crate::specs::Reading::count_of))]
 fn count_line(stamp: u32, count: u32, l: &[u8]) -> Result<State, Fault>
     ensures { result ≡ count_of stamp count l.now }
 {
@@ -96,6 +100,7 @@ fn count_line(stamp: u32, count: u32, l: &[u8]) -> Result<State, Fault>
 }
 
 // A key in bounds and above the last is one more, unless there are `most` already.
+#[tactic(auto, unfolding(crate::specs::Reading::keyed))]
 fn key_read(most: u32, stamp: u32, count: u32, last: u32, k: u32) -> Result<State, Fault>
     ensures { result ≡ keyed most stamp count last k }
 {
@@ -113,6 +118,7 @@ fn key_read(most: u32, stamp: u32, count: u32, last: u32, k: u32) -> Result<Stat
 }
 
 // After a value, a key or the count.
+#[tactic(auto, unfolding(crate::specs::Reading::key_of))]
 fn key_line(most: u32, stamp: u32, count: u32, last: u32, l: &[u8]) -> Result<State, Fault>
     ensures { result ≡ key_of most stamp count last l.now }
 {
@@ -200,6 +206,7 @@ fn gather(input: &[u8], name: &[u8], out: &mut [u32])
 
 // Reads a listing into keys and values, from the start of each; what has no room there is left out, and the answer
 // says how many there are. A refusal changes nothing.
+#[tactic(auto, unfolding(crate::specs::Reading::read_of))]
 pub fn read(most: u32, input: &[u8], keys: &mut [u32], values: &mut [u32]) -> Result<Whole, Unread>
     ensures { done keys.new values.new result ≡
         read_of most input.now keys.old values.old }
