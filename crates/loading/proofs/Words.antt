@@ -12,6 +12,7 @@ use lib.ListN.{length}
 use lib.Dec.{eqb}
 use borrow.Author.Tests.{eq-eqb, ne_eqb}
 use Rattle.terms.specs.declared.Size.{Size}
+use Rattle.terms.specs.declared.Counters.{Counters}
 use Rattle.steps.specs.Steps.{Tables, tables}
 use Rattle.register.specs.Register.{fits, fresh_nodes, fresh_entries, fresh_counters, fresh_of, opened}
 use Rattle.loading.specs.Filing.{pred_of}
