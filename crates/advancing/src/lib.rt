@@ -23,7 +23,7 @@ ghost use Rattle.advancing.specs.Advancing.{
   advance_of,
 };
 
-use encoding::{OpWords, PhaseWords};
+use encoding::{OpWords, PhaseWords, kind, phase};
 use nodes::{KEY, LOCK, NEXT, REMOVED};
 
 #[tactic(auto, unfolding(crate::specs::Advancing::updates_of))]
@@ -31,8 +31,8 @@ pub fn updates(o: OpWords) -> bool
     ensures { result ≡ updates_of o }
 {
     match o.kind {
-        1 => true,
-        2 => o.second == 0,
+        kind::INSERT => true,
+        kind::REMOVE => o.second == 0,
         _ => false,
     }
 }
@@ -42,7 +42,7 @@ fn arrive(nodes: &[u32], sought: u32, curr: u32) -> Option<u32>
     ensures { result ≡ arrive_ahead small nodes.now sought curr }
 {
     if curr < 512 && sought <= nodes::node(nodes, curr, KEY) {
-        return Some(2);
+        return Some(phase::LOCK);
     }
     None
 }
@@ -79,7 +79,7 @@ fn check_remove(nodes: &[u32], sought: u32, curr: u32) -> Option<u32>
     ensures { result ≡ remove_ahead nodes.now sought curr }
 {
     if nodes::node(nodes, curr, REMOVED) == 0 && nodes::node(nodes, curr, KEY) == sought {
-        return Some(5);
+        return Some(phase::PREPARE);
     }
     None
 }
@@ -97,7 +97,7 @@ fn check(nodes: &[u32], removes: bool, sought: u32, pred: u32, curr: u32) -> Opt
     if nodes::node(nodes, curr, KEY) == sought {
         return None;
     }
-    Some(5)
+    Some(phase::PREPARE)
 }
 
 #[tactic(auto, unfolding(crate::specs::Advancing::link_ahead))]
@@ -114,13 +114,13 @@ fn link(nodes: &mut [u32], removes: bool, pred: u32, node: u32) -> Option<u32>
         let next = nodes::node(nodes, node, NEXT);
         nodes::put(nodes, node, REMOVED, 1);
         nodes::put(nodes, pred, NEXT, next);
-        return Some(8);
+        return Some(phase::FINISH);
     }
     nodes::put(nodes, pred, NEXT, node);
-    Some(8)
+    Some(phase::FINISH)
 }
 
-// Phases 1 to 4.
+// The phases before Prepare.
 #[tactic(auto, unfolding(crate::specs::Advancing::early_ahead))]
 fn early(
     nodes: &mut [u32],
@@ -136,11 +136,11 @@ fn early(
         ≡ early_ahead small nodes.old who removes sought phase pred curr }
 {
     match phase {
-        1 => arrive(nodes, sought, curr),
-        2 if removes => lock(nodes, who, pred, 3),
-        2 => lock(nodes, who, pred, 4),
-        3 => lock(nodes, who, curr, 4),
-        4 => check(nodes, removes, sought, pred, curr),
+        phase::WALK => arrive(nodes, sought, curr),
+        phase::LOCK if removes => lock(nodes, who, pred, phase::LOCK_CURR),
+        phase::LOCK => lock(nodes, who, pred, phase::CHECK),
+        phase::LOCK_CURR => lock(nodes, who, curr, phase::CHECK),
+        phase::CHECK => check(nodes, removes, sought, pred, curr),
         _ => None,
     }
 }
@@ -153,8 +153,8 @@ pub fn advance(nodes: &mut [u32], who: u32, o: OpWords, p: PhaseWords) -> Option
     if !updates(o) {
         return None;
     }
-    let removes = o.kind == 2;
-    if p.phase == 7 {
+    let removes = o.kind == kind::REMOVE;
+    if p.phase == phase::LINK {
         return link(nodes, removes, p.a, p.b);
     }
     if encoding::all_zero(p.c, p.d, p.e) {

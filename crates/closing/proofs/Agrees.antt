@@ -99,7 +99,7 @@ module _ (z : Size) (ns es : List ℕ) (c : Counters) (who : ℕ) (w : Words) wh
   finish_acts eight u room _ =
       acts_from u (Phase.Finish w.phase.a w.phase.b w.phase.c w.phase.d w.phase.e) _ _ (over c w)
       (is_updating w.phase _ (omega arith) (omega arith) (omega arith)
-      (is_finish _ _ _ _ _ _ (omega arith) (omega arith)))
+      (is_finish w.phase.phase w.phase.a w.phase.b w.phase.c w.phase.d w.phase.e (omega arith) (omega arith)))
       refl (omega arith) (omega arith) (sym (back_all w.phase (omega arith) (omega arith) (omega arith)))
       (finish_step_lem u room)
 

@@ -11,7 +11,7 @@ ghost use Rattle.terms.specs.Terms.{small};
 ghost use Rattle.closing.specs.Closing.{number_ahead, usable_ahead, finished, finish_ahead};
 ghost use Rattle.closing.specs.Told.{finish_answer};
 
-use encoding::{OpWords, PhaseWords};
+use encoding::{OpWords, PhaseWords, kind, phase};
 use terms::Answer;
 
 // Tells the update's number.
@@ -19,7 +19,7 @@ use terms::Answer;
 pub fn number(stamp: u32, o: OpWords, p: PhaseWords) -> Option<u32>
     ensures { result ≡ number_ahead small stamp o p }
 {
-    if p.phase == 6 && p.e == 0 && advancing::updates(o) && stamp < 1020 {
+    if p.phase == phase::NUMBER && p.e == 0 && advancing::updates(o) && stamp < 1020 {
         return Some(stamp + 1);
     }
     None
@@ -38,10 +38,10 @@ pub fn finish(nodes: &mut [u32], entries: &mut [u32], o: OpWords, p: PhaseWords)
     ensures { finished nodes.new entries.new result
         ≡ finish_ahead small nodes.old entries.old o p }
 {
-    if p.phase != 8 || !advancing::updates(o) {
+    if p.phase != phase::FINISH || !advancing::updates(o) {
         return false;
     }
-    let removes = o.kind == 2;
+    let removes = o.kind == kind::REMOVE;
     if !usable(removes, p) {
         return false;
     }

@@ -36,44 +36,35 @@ module _ (kind first second : ℕ) where
 -- ---- a phase
 module _ (phase pred curr : ℕ) where
   pub is_walk : phase ≡ 1 → Phase.Walk pred curr ≡ walking_from phase pred curr
-  unfolding walking_from
   is_walk h = rw h
 
   pub is_lock : phase ≡ 2 → Phase.Lock pred curr ≡ walking_from phase pred curr
-  unfolding walking_from
   is_lock h = rw h
 
   pub is_lock_curr : phase ≡ 3 → Phase.LockCurr pred curr ≡ walking_from phase pred curr
-  unfolding walking_from
   is_lock_curr h = rw h
 
   pub is_check : phase ≡ 4 → Phase.Check pred curr ≡ walking_from phase pred curr
-  unfolding walking_from
   is_check h = rw h
 
 module _ (phase pred node lower upper number : ℕ) where
   pub is_number : phase ≡ 6 → Phase.Number pred node lower upper ≡ updating_from phase pred node lower upper number
-  unfolding updating_from
   is_number h = rw h
 
   pub is_link : phase ≡ 7
       → Phase.Link pred node lower upper number ≡ updating_from phase pred node lower upper number
-  unfolding updating_from
   is_link h = rw h
 
   pub is_finish : (phase ≡ 6 → ⊥) → (phase ≡ 7 → ⊥)
       → Phase.Finish pred node lower upper number ≡ updating_from phase pred node lower upper number
-  unfolding updating_from
   is_finish h i = rw (ne_eqb _ _ h, ne_eqb _ _ i)
 
 module _ (phase at snapshot handed : ℕ) where
   pub is_follow : phase ≡ 11 → Phase.Follow at snapshot handed ≡ reading_from phase at snapshot handed
-  unfolding reading_from
   is_follow h = rw h
 
   pub is_hand : (phase ≡ 9 → ⊥) → (phase ≡ 10 → ⊥) → (phase ≡ 11 → ⊥)
       → Phase.Hand at snapshot handed ≡ reading_from phase at snapshot handed
-  unfolding reading_from
   is_hand h i j = rw (ne_eqb _ _ h, ne_eqb _ _ i, ne_eqb _ _ j)
 
 module _ (w : PhaseWords) where
@@ -139,7 +130,6 @@ abbrev pub stands_for : PhaseWords → PhaseWords
 stands_for w = phase_words (phase_from w)
 
 walking_words : (p a b : ℕ) → (p ≡ 0 → ⊥) → p ≤ 5 → phase_words (walking_from p a b) ≡ phase_with p a b 0 0 0
-unfolding walking_from
 walking_words p a b h i =
     eqb_cases fit p 1 _ _ (λ e. rw e) (λ m.
     eqb_cases fit p 2 _ _ (λ e. rw e) (λ n.
@@ -157,23 +147,23 @@ module _ (w : PhaseWords) where
   as_walking h i = rw (← is_walking w _ h i refl) (walking_words _ _ _ h i)
 
   as_number : w.phase ≡ 6 → stands_for w ≡ phase_with w.phase w.a w.b w.c w.d 0
-  unfolding phase_from updating_from
+  unfolding phase_from
   as_number h = rw h
 
   as_updating : 6 < w.phase → w.phase ≤ 8
       → stands_for w ≡ phase_with w.phase w.a w.b w.c w.d w.e
-  unfolding phase_from updating_from
+  unfolding phase_from
   as_updating h i = either w.phase 7 (omega arith) (omega arith) (λ e. rw e) (λ e. rw e)
 
   as_following : 10 < w.phase → w.phase ≤ 12
       → stands_for w ≡ phase_with w.phase w.a w.b w.c 0 0
-  unfolding phase_from reading_from
+  unfolding phase_from
   as_following h i = either w.phase 11 (omega arith) (omega arith) (λ e. rw e) (λ e. rw e)
 
   as_past : 12 < w.phase → stands_for w ≡ phase_with 12 w.a w.b w.c 0 0
   as_past h =
-      rw (← is_reading w _ (omega arith) (omega arith) (omega arith)
-      (is_hand _ _ _ _ (omega arith) (omega arith) (omega arith)))
+      rw (← is_reading w (Phase.Hand w.a w.b w.c) (omega arith) (omega arith) (omega arith)
+      (is_hand w.phase w.a w.b w.c (omega arith) (omega arith) (omega arith)))
 
 -- ---- are the words of a phase right
 module _ (w : PhaseWords) where

@@ -54,21 +54,21 @@ op_from kind first second =
     (cond (eqb kind 3) (Op.Has first)
     (cond (eqb kind 4) (Op.Range first second) Op.None)))
 
-unfoldable pub walking_from : ℕ → ℕ → ℕ → Phase
+abbrev pub walking_from : ℕ → ℕ → ℕ → Phase
 walking_from phase pred curr =
     cond (eqb phase 1) (Phase.Walk pred curr)
     (cond (eqb phase 2) (Phase.Lock pred curr)
     (cond (eqb phase 3) (Phase.LockCurr pred curr)
     (cond (eqb phase 4) (Phase.Check pred curr) (Phase.Prepare pred curr))))
 
-unfoldable pub updating_from : ℕ → ℕ → ℕ → ℕ → ℕ → ℕ → Phase
+abbrev pub updating_from : ℕ → ℕ → ℕ → ℕ → ℕ → ℕ → Phase
 updating_from phase pred node lower upper number =
     cond (eqb phase 6) (Phase.Number pred node lower upper)
     (cond (eqb phase 7)
     (Phase.Link pred node lower upper number)
     (Phase.Finish pred node lower upper number))
 
-unfoldable pub reading_from : ℕ → ℕ → ℕ → ℕ → Phase
+abbrev pub reading_from : ℕ → ℕ → ℕ → ℕ → Phase
 reading_from phase at snapshot handed =
     cond (eqb phase 9) (Phase.Newest at)
     (cond (eqb phase 10) (Phase.Fix at)

@@ -1,5 +1,6 @@
 // A session's record as nine words, for callers in other languages, and back.
-// In order: the words; an operation's; a phase's; a record's; what words would stand for; are they right; decoding.
+// In order: the numbers of kinds and phases; the words; an operation's; a phase's; a record's; what words would stand
+// for; are words 0; decoding.
 // The words of a record are decoded and encoded back unchanged; words that no record encodes to are malformed
 // (proofs/Trip.antt). Not here: where the words lie in a lent slice (crate packing). Assumes nothing.
 #![tactic(auto)]
@@ -13,25 +14,60 @@ ghost use Rattle.encoding.specs.Encoding.{
   phase_from,
   session_from,
   same_three,
-  op_right,
-  front_right,
-  back_right,
   decode,
 };
 
 use steps::{Phase, Session};
 use terms::Op;
 
+// The number of each kind of operation; none is 0.
+pub mod kind {
+    pub const INSERT: u32 = 1;
+
+    pub const REMOVE: u32 = 2;
+
+    pub const HAS: u32 = 3;
+
+    pub const RANGE: u32 = 4;
+}
+
+// The number of each phase, in document 01's order; idle is 0.
+pub mod phase {
+    pub const WALK: u32 = 1;
+
+    pub const LOCK: u32 = 2;
+
+    pub const LOCK_CURR: u32 = 3;
+
+    pub const CHECK: u32 = 4;
+
+    pub const PREPARE: u32 = 5;
+
+    pub const NUMBER: u32 = 6;
+
+    pub const LINK: u32 = 7;
+
+    pub const FINISH: u32 = 8;
+
+    pub const NEWEST: u32 = 9;
+
+    pub const FIX: u32 = 10;
+
+    pub const FOLLOW: u32 = 11;
+
+    pub const HAND: u32 = 12;
+}
+
 // An operation: its kind and its two numbers. A number that it does not use is 0.
-#[derive(Clone, Copy, Default)]
+#[derive(Clone, Copy, Default, PartialEq)]
 pub struct OpWords {
     pub kind: u32,
     pub first: u32,
     pub second: u32,
 }
 
-// A phase: its number in document 01's order, and its own five numbers. Those that it does not use are 0.
-#[derive(Clone, Copy, Default)]
+// A phase: its number, and its own five numbers. Those that it does not use are 0.
+#[derive(Clone, Copy, Default, PartialEq)]
 pub struct PhaseWords {
     pub phase: u32,
     pub a: u32,
@@ -41,7 +77,7 @@ pub struct PhaseWords {
     pub e: u32,
 }
 
-#[derive(Clone, Copy, Default)]
+#[derive(Clone, Copy, Default, PartialEq)]
 pub struct Words {
     pub op: OpWords,
     pub phase: PhaseWords,
@@ -58,22 +94,22 @@ impl From<Op> for OpWords {
         match op {
             Op::None => OpWords::default(),
             Op::Insert(first, second) => OpWords {
-                kind: 1,
+                kind: kind::INSERT,
                 first,
                 second,
             },
             Op::Remove(first) => OpWords {
-                kind: 2,
+                kind: kind::REMOVE,
                 first,
                 ..OpWords::default()
             },
             Op::Has(first) => OpWords {
-                kind: 3,
+                kind: kind::HAS,
                 first,
                 ..OpWords::default()
             },
             Op::Range(first, second) => OpWords {
-                kind: 4,
+                kind: kind::RANGE,
                 first,
                 second,
             },
@@ -88,31 +124,31 @@ impl From<Phase> for PhaseWords {
         match phase {
             Phase::Idle => PhaseWords::default(),
             Phase::Walk { pred, curr } => PhaseWords {
-                phase: 1,
+                phase: phase::WALK,
                 a: pred,
                 b: curr,
                 ..PhaseWords::default()
             },
             Phase::Lock { pred, curr } => PhaseWords {
-                phase: 2,
+                phase: phase::LOCK,
                 a: pred,
                 b: curr,
                 ..PhaseWords::default()
             },
             Phase::LockCurr { pred, curr } => PhaseWords {
-                phase: 3,
+                phase: phase::LOCK_CURR,
                 a: pred,
                 b: curr,
                 ..PhaseWords::default()
             },
             Phase::Check { pred, curr } => PhaseWords {
-                phase: 4,
+                phase: phase::CHECK,
                 a: pred,
                 b: curr,
                 ..PhaseWords::default()
             },
             Phase::Prepare { pred, curr } => PhaseWords {
-                phase: 5,
+                phase: phase::PREPARE,
                 a: pred,
                 b: curr,
                 ..PhaseWords::default()
@@ -123,7 +159,7 @@ impl From<Phase> for PhaseWords {
                 lower,
                 upper,
             } => PhaseWords {
-                phase: 6,
+                phase: phase::NUMBER,
                 a: pred,
                 b: node,
                 c: lower,
@@ -137,7 +173,7 @@ impl From<Phase> for PhaseWords {
                 upper,
                 number,
             } => PhaseWords {
-                phase: 7,
+                phase: phase::LINK,
                 a: pred,
                 b: node,
                 c: lower,
@@ -151,7 +187,7 @@ impl From<Phase> for PhaseWords {
                 upper,
                 number,
             } => PhaseWords {
-                phase: 8,
+                phase: phase::FINISH,
                 a: pred,
                 b: node,
                 c: lower,
@@ -159,12 +195,12 @@ impl From<Phase> for PhaseWords {
                 e: number,
             },
             Phase::Newest { at } => PhaseWords {
-                phase: 9,
+                phase: phase::NEWEST,
                 a: at,
                 ..PhaseWords::default()
             },
             Phase::Fix { pred } => PhaseWords {
-                phase: 10,
+                phase: phase::FIX,
                 a: pred,
                 ..PhaseWords::default()
             },
@@ -173,7 +209,7 @@ impl From<Phase> for PhaseWords {
                 snapshot,
                 handed,
             } => PhaseWords {
-                phase: 11,
+                phase: phase::FOLLOW,
                 a: at,
                 b: snapshot,
                 c: handed,
@@ -184,7 +220,7 @@ impl From<Phase> for PhaseWords {
                 snapshot,
                 handed,
             } => PhaseWords {
-                phase: 12,
+                phase: phase::HAND,
                 a: at,
                 b: snapshot,
                 c: handed,
@@ -211,64 +247,64 @@ pub fn op_from(kind: u32, first: u32, second: u32) -> Op
     ensures { result ≡ op_from kind first second }
 {
     match kind {
-        1 => Op::Insert(first, second),
-        2 => Op::Remove(first),
-        3 => Op::Has(first),
-        4 => Op::Range(first, second),
+        kind::INSERT => Op::Insert(first, second),
+        kind::REMOVE => Op::Remove(first),
+        kind::HAS => Op::Has(first),
+        kind::RANGE => Op::Range(first, second),
         _ => Op::None,
     }
 }
 
-// Any phase past 11 is read as the last one: decoding tells whether it is (front_right).
-#[tactic(auto, unfolding(crate::specs::Encoding::phase_from, crate::specs::Encoding::walking_from, crate::specs::Encoding::updating_from, crate::specs::Encoding::reading_from))]
+// Any phase past 11 is read as the last one: decoding tells whether it is.
+#[tactic(auto, unfolding(crate::specs::Encoding::phase_from))]
 fn phase_from(w: PhaseWords) -> Phase
     ensures { result ≡ phase_from w }
 {
     match w.phase {
         0 => Phase::Idle,
-        1 => Phase::Walk {
+        phase::WALK => Phase::Walk {
             pred: w.a,
             curr: w.b,
         },
-        2 => Phase::Lock {
+        phase::LOCK => Phase::Lock {
             pred: w.a,
             curr: w.b,
         },
-        3 => Phase::LockCurr {
+        phase::LOCK_CURR => Phase::LockCurr {
             pred: w.a,
             curr: w.b,
         },
-        4 => Phase::Check {
+        phase::CHECK => Phase::Check {
             pred: w.a,
             curr: w.b,
         },
-        5 => Phase::Prepare {
+        phase::PREPARE => Phase::Prepare {
             pred: w.a,
             curr: w.b,
         },
-        6 => Phase::Number {
+        phase::NUMBER => Phase::Number {
             pred: w.a,
             node: w.b,
             lower: w.c,
             upper: w.d,
         },
-        7 => Phase::Link {
-            pred: w.a,
-            node: w.b,
-            lower: w.c,
-            upper: w.d,
-            number: w.e,
-        },
-        8 => Phase::Finish {
+        phase::LINK => Phase::Link {
             pred: w.a,
             node: w.b,
             lower: w.c,
             upper: w.d,
             number: w.e,
         },
-        9 => Phase::Newest { at: w.a },
-        10 => Phase::Fix { pred: w.a },
-        11 => Phase::Follow {
+        phase::FINISH => Phase::Finish {
+            pred: w.a,
+            node: w.b,
+            lower: w.c,
+            upper: w.d,
+            number: w.e,
+        },
+        phase::NEWEST => Phase::Newest { at: w.a },
+        phase::FIX => Phase::Fix { pred: w.a },
+        phase::FOLLOW => Phase::Follow {
             at: w.a,
             snapshot: w.b,
             handed: w.c,
@@ -298,45 +334,6 @@ pub fn all_zero(x: u32, y: u32, z: u32) -> bool
     x == 0 && y == 0 && z == 0
 }
 
-// A kind, and 0 in the words that it does not use.
-#[tactic(auto, unfolding(crate::specs::Encoding::op_right, crate::specs::Encoding::op_from, crate::specs::Encoding::same_three))]
-pub fn op_right(w: OpWords) -> bool
-    ensures { result ≡ op_right w }
-{
-    match w.kind {
-        0 => w.first == 0 && w.second == 0,
-        1 | 4 => true,
-        2 | 3 => w.second == 0,
-        _ => false,
-    }
-}
-
-// A phase, and 0 in those of its first two numbers that it does not use.
-#[tactic(auto, unfolding(crate::specs::Encoding::front_right, crate::specs::Encoding::phase_from, crate::specs::Encoding::walking_from, crate::specs::Encoding::updating_from, crate::specs::Encoding::reading_from, crate::specs::Encoding::same_three))]
-fn front_right(w: PhaseWords) -> bool
-    ensures { result ≡ front_right w }
-{
-    match w.phase {
-        0 => w.a == 0 && w.b == 0,
-        1..=8 => true,
-        9 | 10 => w.b == 0,
-        _ => w.phase <= 12,
-    }
-}
-
-// 0 in those of the last three numbers that the phase does not use.
-#[tactic(auto, unfolding(crate::specs::Encoding::back_right, crate::specs::Encoding::phase_from, crate::specs::Encoding::walking_from, crate::specs::Encoding::updating_from, crate::specs::Encoding::reading_from, crate::specs::Encoding::same_three))]
-fn back_right(w: PhaseWords) -> bool
-    ensures { result ≡ back_right w }
-{
-    match w.phase {
-        0..=5 | 9 | 10 => all_zero(w.c, w.d, w.e),
-        6 => w.e == 0,
-        7 | 8 => true,
-        _ => w.d == 0 && w.e == 0,
-    }
-}
-
 // The record that encodes to these words. What no record encodes to is malformed: a kind above 4, a phase above 12,
 // an unused word that is not 0.
 impl TryFrom<Words> for Session {
@@ -344,10 +341,10 @@ impl TryFrom<Words> for Session {
 
     ghost try_from_gives = { λ w r. r ≡ decode w };
 
-    #[tactic(auto, unfolding(crate::specs::Encoding::decode))]
     fn try_from(w: Words) -> Result<Self, Malformed> {
-        if op_right(w.op) && front_right(w.phase) && back_right(w.phase) {
-            Ok(session_from(w))
+        let s = session_from(w);
+        if w == Words::from(s) {
+            Ok(s)
         } else {
             Err(Malformed)
         }

@@ -26,7 +26,7 @@ ghost use Rattle.ffi.specs.Ffi.{
   steps_call,
 };
 
-use encoding::{Malformed, Words};
+use encoding::{Malformed, Words, phase};
 use packing::{A, B, Reply};
 use steps::Session;
 use terms::{Answer, Op, Refusal};
@@ -198,14 +198,14 @@ fn step_shortly(
         ≡ step_call small nodes.old entries.old words.old answer.old
         who }
 {
-    if packing::phase_number(words, who) == 1 {
+    if packing::phase_number(words, who) == phase::WALK {
         return step_seeking(nodes, entries, words, answer, who);
     }
     stepping::otherwise(nodes, entries, words, answer, who)
 }
 
 // The other checks, where the nodes and the answer have their lengths.
-#[tactic(auto, unfolding(stepping::specs::Stepping::step_call, calling::specs::Calling::lengths_fit, register::specs::Register::fits))]
+#[tactic(auto, using(crate::proofs::Ways::checked_steps))]
 fn step_checked(
     nodes: &mut [u32],
     entries: &mut [u32],
@@ -242,7 +242,7 @@ fn refuse_nodes(answer: &mut [u32]) -> u32
 
 // By a short way where one leads: nearly all steps are a walk's or a range's. Of the checks no two in a row go on
 // alike: compiled code would make one test of the two, which costs more than both.
-#[tactic(auto, unfolding(stepping::specs::Stepping::step_call, calling::specs::Calling::lengths_fit, register::specs::Register::fits))]
+#[tactic(auto, using(crate::proofs::Ways::step_nodes))]
 #[unsafe(no_mangle)]
 pub extern "C" fn ravencrumb_step(
     nodes: &mut [u32],

@@ -58,7 +58,7 @@ module _ (w : PhaseWords) where
   hand_phase : w.phase ≡ 12 → Phase.Hand w.a w.b w.c ≡ phase_from w
   hand_phase h =
       is_reading w _ (omega arith) (omega arith) (omega arith)
-      (is_hand _ _ _ _ (omega arith) (omega arith) (omega arith))
+      (is_hand w.phase w.a w.b w.c (omega arith) (omega arith) (omega arith))
 
 module _ (z : Size) (ns es : List ℕ) (who : ℕ) (w : Words) where
   -- from the phase that the words say, the phase after it with its words, and the answer

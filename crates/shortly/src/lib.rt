@@ -19,7 +19,7 @@ ghost use Rattle.shortly.specs.Shortly.{
   range_shortly,
 };
 
-use encoding::{OpWords, PhaseWords, Words};
+use encoding::{OpWords, PhaseWords, Words, kind, phase};
 use nodes::{KEY, NEWEST, NEXT, VALUE};
 
 // A range is led on: the next phase's number, and its node. Or it hands out: how many keys it then has handed out, and
@@ -43,14 +43,13 @@ fn moves_on(nodes: &[u32], sought: u32, curr: u32) -> Option<u32>
 
 // Are these the words of an operation? Its first number is the key sought. Whether the second is 0 comes first: this
 // compiles to fewer jumps than the kind's number first.
-#[tactic(auto, unfolding(crate::specs::Shortly::seeks_of, encoding::specs::Encoding::op_right, encoding::specs::Encoding::op_from, encoding::specs::Encoding::same_three))]
 pub fn seeks(o: OpWords) -> bool
     ensures { result ≡ seeks_of o }
 {
     if o.second == 0 {
-        matches!(o.kind, 1..=4)
+        matches!(o.kind, kind::INSERT..=kind::RANGE)
     } else {
-        matches!(o.kind, 1 | 4)
+        matches!(o.kind, kind::INSERT | kind::RANGE)
     }
 }
 
@@ -59,7 +58,7 @@ pub fn seeks(o: OpWords) -> bool
 pub fn walk(nodes: &[u32], sought: u32, p: PhaseWords) -> Option<u32>
     ensures { result ≡ walk_shortly small nodes.now sought p }
 {
-    if p.phase == 1 && encoding::all_zero(p.c, p.d, p.e) {
+    if p.phase == phase::WALK && encoding::all_zero(p.c, p.d, p.e) {
         return moves_on(nodes, sought, p.b);
     }
     None
@@ -75,9 +74,9 @@ fn sees(nodes: &[u32], low: u32, high: u32, to: u32) -> Option<Ranged>
     }
     let key = nodes::node(nodes, to, KEY);
     if key < low {
-        Some(Ranged::Leads(11, to))
+        Some(Ranged::Leads(phase::FOLLOW, to))
     } else if key <= high {
-        Some(Ranged::Leads(12, to))
+        Some(Ranged::Leads(phase::HAND, to))
     } else {
         None
     }
@@ -122,10 +121,10 @@ pub fn range(nodes: &[u32], entries: &[u32], w: Words) -> Option<Ranged>
 {
     let o = w.op;
     let p = w.phase;
-    if o.kind == 4 && encoding::all_zero(0, p.d, p.e) {
+    if o.kind == kind::RANGE && encoding::all_zero(0, p.d, p.e) {
         return match p.phase {
-            11 => follow(nodes, entries, o.first, o.second, p.a, p.b),
-            12 => hand(nodes, p.a, p.c),
+            phase::FOLLOW => follow(nodes, entries, o.first, o.second, p.a, p.b),
+            phase::HAND => hand(nodes, p.a, p.c),
             _ => None,
         };
     }

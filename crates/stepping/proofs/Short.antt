@@ -97,8 +97,8 @@ module _ (z : Size) (ns es ws out : List ℕ) (who : ℕ) (o : OpWords) (p : Pha
   pub advances_fully : (t : Left) → x ≡ None → t ≡ step_call z ns' es ws out who → t ≡ step_call z ns es ws out who
   advances_fully t none e = e ∙ ap (λ m. step_call z m es ws out who) (advance_none z ns who o p ns' x way none)
 
-  pub advances_shortly : (f : ℕ) (r : Reply) (ws' out' : List ℕ) (n : ℕ) → IsAdmitted z ns es ws out who → o ≡ op_at ws who
-      → p ≡ phase_at ws who → x ≡ Some f → r ≡ reply_of Answer.Working
+  pub advances_shortly : (f : ℕ) (r : Reply) (ws' out' : List ℕ) (n : ℕ) → IsAdmitted z ns es ws out who
+      → o ≡ op_at ws who → p ≡ phase_at ws who → x ≡ Some f → r ≡ reply_of Answer.Working
       → heard ws' out' n ≡ went ws out who 6 f 7 p.a r → left ns' es ws' out' n ≡ step_call z ns es ws out who
   advances_shortly f r ws' out' n ready op phase some says puts =
       let told : advance_of z ns who (op_at ws who) (phase_at ws who) ≡ advanced ns' (Some f)

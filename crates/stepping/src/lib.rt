@@ -11,7 +11,7 @@ ghost use Rattle.terms.specs.Terms.{small};
 ghost use Rattle.exchange.specs.Exchange.{left};
 ghost use Rattle.stepping.specs.Stepping.{IsAdmitted, heard, went, settled, ended, step_call};
 
-use encoding::{PhaseWords, Words};
+use encoding::{PhaseWords, Words, kind, phase};
 use packing::{A, C, PHASE, Reply};
 use shortly::Ranged;
 use terms::{Answer, Counters, Refusal};
@@ -76,7 +76,7 @@ fn ranging(
         }
         Some(Ranged::Hands(handed, key, value)) => {
             let reply = Reply::from(Answer::Key(key, value));
-            go(words, answer, who, PHASE, 11, C, handed, reply)
+            go(words, answer, who, PHASE, phase::FOLLOW, C, handed, reply)
         }
         None => fully(nodes, entries, words, answer, who),
     }
@@ -144,7 +144,7 @@ fn numbering(
         Some(stamp) => {
             let raised = Counters { stamp, ..c };
             let phase = PhaseWords {
-                phase: 7,
+                phase: phase::LINK,
                 e: stamp,
                 ..p
             };
@@ -181,7 +181,7 @@ fn finishing(
     let o = packing::op_at(words, who);
     let p = packing::phase_at(words, who);
     if closing::finish(nodes, entries, o, p) {
-        return end_update(words, answer, who, o.kind == 2, p.e);
+        return end_update(words, answer, who, o.kind == kind::REMOVE, p.e);
     }
     fully(nodes, entries, words, answer, who)
 }
@@ -199,9 +199,9 @@ fn by_phase(
         who }
 {
     match packing::phase_number(words, who) {
-        6 => numbering(nodes, entries, words, answer, who),
-        8 => finishing(nodes, entries, words, answer, who),
-        11.. => ranging(nodes, entries, words, answer, who),
+        phase::FOLLOW.. => ranging(nodes, entries, words, answer, who),
+        phase::NUMBER => numbering(nodes, entries, words, answer, who),
+        phase::FINISH => finishing(nodes, entries, words, answer, who),
         _ => updating(nodes, entries, words, answer, who),
     }
 }
