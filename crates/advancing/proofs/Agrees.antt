@@ -31,8 +31,8 @@ use Rattle.encoding.proofs.Ways.{is_insert, is_remove, is_walk, is_lock, is_lock
 use Rattle.encoding.proofs.Ways.{is_walking, is_updating, right_insert, right_key}
 use Rattle.encoding.proofs.Ways.{front_all, back_walks, back_all}
 use Rattle.encoding.proofs.Trip.{and_first, and_second, three_same, right_decodes}
-use Rattle.packing.specs.Packing.{reply_with, number_of}
-use Rattle.shortly.specs.Told.{named, Agrees, led_to}
+use Rattle.packing.specs.Packing.{number_of}
+use Rattle.shortly.specs.Told.{named, led_to}
 use Rattle.shortly.proofs.Agrees.{agrees}
 use Rattle.advancing.specs.Advancing.{updates_of, removing, Advanced, advanced, still, arrive_ahead, lock_ahead}
 use Rattle.advancing.specs.Advancing.{stands_of, remove_ahead, check_ahead, link_ahead, early_ahead, early_zeros}

@@ -4,15 +4,13 @@
 use Prim.Native.Nat.{ℕ, ◌+◌, ◌≤◌, ◌<◌}
 use mathlib.Core.Path.{◌≡◌, refl, sym, ◌∙◌}
 use mathlib.Core.List.{List}
-use mathlib.Core.Bool.{Bool, true, false, cond, ◌&&◌}
-use Rattle.std.specs.Prelude.{Option, Some, None, Ok}
+use mathlib.Core.Bool.{Bool, true, false}
+use Rattle.std.specs.Prelude.{Option, Some, None}
 use native.Mathlib.Omega.{arith}
-use lib.Dec.{ltb, eqb}
-use borrow.Author.Tests.{ltb-true, eqb-true}
+use lib.Dec.{eqb}
 use Rattle.order.proofs.Tests.{cond_cases, ltb_cases, eqb_cases}
 use Rattle.nodes.specs.Nodes.{unlocked_both}
 use Rattle.bundle.specs.Bundle.{finish_of}
-use Rattle.terms.specs.Terms.{removes_of, names_of}
 use Rattle.terms.specs.declared.Size.{Size}
 use Rattle.terms.specs.declared.Counters.{Counters}
 use Rattle.steps.specs.declared.Phase.{Phase}
@@ -22,7 +20,7 @@ use Rattle.finishing.proofs.Ways.{numbers}
 use Rattle.encoding.specs.declared.OpWords.{OpWords}
 use Rattle.encoding.specs.declared.PhaseWords.{PhaseWords}
 use Rattle.encoding.specs.declared.Words.{Words}
-use Rattle.encoding.specs.Encoding.{phase_from, session_from, back_right, decode}
+use Rattle.encoding.specs.Encoding.{phase_from, back_right}
 use Rattle.encoding.proofs.Ways.{is_updating, is_number, is_finish, front_all, back_number, back_all}
 use Rattle.encoding.proofs.Trip.{right_decodes}
 use Rattle.shortly.specs.Told.{named}

@@ -1,11 +1,11 @@
 -- The round trip: a record's words decode to that record, decoded words encode back to themselves, and malformed words
 -- are no record's.
 -- In order: words that test as the same are the same; right words are those of what they stand for; the record that a
--- record's words stand for; the three laws. Assumes nothing.
+-- record's words stand for; the three laws; what decoding tests. Assumes nothing.
 use Prim.Native.Nat.{ℕ}
 use mathlib.Core.Path.{◌≡◌, refl, sym, ap, ◌∙◌}
 use mathlib.Core.Bool.{Bool, true, false, cond, ◌&&◌}
-use Rattle.std.specs.Prelude.{Result, Ok, Err}
+use Rattle.std.specs.Prelude.{Ok}
 use lib.Dec.{eqb}
 use native.Mathlib.Omega.{arith}
 use borrow.Author.Tests.{eqb-true}
@@ -15,9 +15,8 @@ use Rattle.steps.specs.declared.Session.{Session}
 use Rattle.encoding.specs.declared.OpWords.{OpWords}
 use Rattle.encoding.specs.declared.PhaseWords.{PhaseWords}
 use Rattle.encoding.specs.declared.Words.{Words}
-use Rattle.encoding.specs.declared.Malformed.{Malformed}
-use Rattle.encoding.specs.Encoding.{kind_with, phase_with, op_words, phase_words, encode, op_from, walking_from}
-use Rattle.encoding.specs.Encoding.{updating_from, reading_from, phase_from, session_from, same_three, op_right}
+use Rattle.encoding.specs.Encoding.{kind_with, phase_with, op_words, phase_words, encode, op_from}
+use Rattle.encoding.specs.Encoding.{phase_from, session_from, same_three, op_right}
 use Rattle.encoding.specs.Encoding.{front_right, back_right, malformed, decode}
 use Rattle.encoding.proofs.Ways.{three_self}
 

@@ -11,13 +11,11 @@ use Rattle.order.proofs.Tests.{eqb_cases}
 use borrow.Author.Tests.{le-leb, lt-leb, eq-eqb, ne_eqb}
 use Rattle.terms.specs.declared.Op.{Op}
 use Rattle.steps.specs.declared.Phase.{Phase}
-use Rattle.steps.specs.declared.Session.{Session}
 use Rattle.encoding.specs.declared.OpWords.{OpWords}
 use Rattle.encoding.specs.declared.PhaseWords.{PhaseWords}
-use Rattle.encoding.specs.declared.Words.{Words}
-use Rattle.encoding.specs.Encoding.{kind_with, op_words, phase_with, phase_words, encode, op_from, walking_from}
+use Rattle.encoding.specs.Encoding.{phase_with, phase_words, op_from, walking_from}
 use Rattle.encoding.specs.Encoding.{updating_from, reading_from, phase_from}
-use Rattle.encoding.specs.Encoding.{session_from, same_three, op_right, front_right, back_right, decode}
+use Rattle.encoding.specs.Encoding.{same_three, op_right, front_right, back_right}
 
 -- ---- an operation
 module _ (kind first second : ℕ) where

@@ -14,7 +14,7 @@ use Rattle.register.specs.Register.{keeps, start_of, step_of}
 use Rattle.std.specs.Prelude.{Ok}
 use Rattle.encoding.specs.Encoding.{encode, decode}
 use Rattle.encoding.proofs.Trip.{encode_decode}
-use Rattle.packing.specs.Packing.{counters_at, put_counters, record_at, put_record, number_of}
+use Rattle.packing.specs.Packing.{counters_at, record_at, put_record, number_of}
 use Rattle.packing.proofs.Same.{counters_same, record_same}
 use Rattle.exchange.specs.Exchange.{stays}
 use Rattle.calling.specs.Calling.{kept}

@@ -12,7 +12,7 @@ use Rattle.terms.specs.Terms.{small}
 use Rattle.terms.specs.declared.Size.{Size}
 use Rattle.register.specs.Register.{fits}
 use Rattle.packing.specs.Packing.{refused_by, put_reply}
-use Rattle.exchange.specs.Exchange.{Told, told, left, stays}
+use Rattle.exchange.specs.Exchange.{told, left, stays}
 use Rattle.calling.specs.Calling.{lengths_fit, refusal, strode, tally}
 use Rattle.stepping.specs.Stepping.{heard, step_call}
 use Rattle.ffi.specs.Ffi.{unfit, start_call, steps_call}

@@ -14,12 +14,12 @@ use Rattle.terms.specs.declared.Size.{Size}
 use Rattle.terms.specs.declared.Counters.{Counters}
 use Rattle.terms.specs.declared.Answer.{Answer}
 use Rattle.steps.specs.declared.Stepped.{Stepped}
-use Rattle.steps.specs.Steps.{idle, done, gives}
+use Rattle.steps.specs.Steps.{done, gives}
 use Rattle.register.specs.Register.{fits, step_of}
 use Rattle.encoding.specs.declared.OpWords.{OpWords}
 use Rattle.encoding.specs.declared.PhaseWords.{PhaseWords}
 use Rattle.encoding.specs.declared.Words.{Words}
-use Rattle.encoding.specs.Encoding.{op_words, phase_with, encode, session_from}
+use Rattle.encoding.specs.Encoding.{op_words, phase_with, session_from}
 use Rattle.encoding.proofs.Trip.{and_first, encode_decode}
 use Rattle.packing.specs.declared.Reply.{Reply}
 use Rattle.packing.specs.Packing.{counters_at, op_at, phase_at, record_at, put_phase, reply_of, number_of, put_reply}

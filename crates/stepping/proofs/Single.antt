@@ -1,7 +1,7 @@
 -- One step is the first of many: a call of one step, with an answer of three words, is the step.
 -- In order: words past the answer's end are not written; one step of a record; the call. Assumes nothing.
 use Prim.Native.Nat.{ℕ, ◌+◌, ◌*◌, ◌≤◌}
-use mathlib.Core.Path.{◌≡◌, refl, sym, ◌∙◌, ap}
+use mathlib.Core.Path.{◌≡◌, ◌∙◌, ap}
 use mathlib.Core.List.{List}
 use mathlib.Core.Bool.{Bool, true, false, cond}
 use Rattle.std.specs.Prelude.{Result, Ok, Err}

@@ -2,20 +2,11 @@
 use Prim.Native.Nat.{ℕ}
 use mathlib.Core.Path.{◌≡◌}
 use mathlib.Core.List.{List}
-use mathlib.Core.Bool.{Bool}
 use lib.ListN.{length}
 use borrow.Author.Tests.{ne_eqb}
 use Rattle.terms.specs.declared.Size.{Size}
-use Rattle.terms.specs.declared.Counters.{Counters}
-use Rattle.terms.specs.declared.Answer.{Answer}
-use Rattle.steps.specs.Steps.{idle}
-use Rattle.encoding.specs.declared.Words.{Words}
-use Rattle.encoding.specs.Encoding.{encode}
-use Rattle.packing.specs.declared.Reply.{Reply}
-use Rattle.packing.specs.Packing.{counters_at, put_counters, put_record, reply_of, put_reply}
 use Rattle.exchange.specs.Exchange.{left}
-use Rattle.closing.specs.Told.{finish_answer}
-use Rattle.stepping.specs.Stepping.{Heard, heard, settled, ended, step_call}
+use Rattle.stepping.specs.Stepping.{step_call}
 
 pub step_silent : (z : Size) (ns es ws out : List ℕ) (who : ℕ) → (length out ≡ 3 → ⊥)
     → left ns es ws out 7 ≡ step_call z ns es ws out who
