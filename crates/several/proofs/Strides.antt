@@ -12,22 +12,12 @@ use Rattle.steps.specs.declared.Session.{Session}
 use Rattle.onward.specs.declared.Far.{Far}
 use Rattle.onward.specs.Onward.{Reach, reached, far_of}
 use Rattle.onward.proofs.Bounds.{far_within}
-use Rattle.several.specs.declared.Turn.{Turn}
 use Rattle.several.specs.declared.Went.{Went}
 use Rattle.several.specs.Several.{Turned, turned, turn_of, Gone, gone, stops, step_then, stride_of}
 use Rattle.several.proofs.Ways.{Rest, go_first, few, turn_last, turn_stops, turn_on}
 use Rattle.several.proofs.Far.{far_same, after_far}
 
--- ---- what a stride leaves
-pub stride_is : (z : Size) (ns es ps : List ℕ) (n : ℕ) (c : Counters) (who : ℕ) (s : Session) (more made : ℕ)
-    (ps₁ : List ℕ) (f : Far) (ns' es' ps' : List ℕ) (t : Turn)
-    → reached ps₁ f ≡ far_of more z ns es ps who s n made
-    → turned ns' es' ps' t ≡ turn_of z ns es ps₁ f.count c who f.session
-    → gone ns' es' ps' (record { last = t; made = f.made + 1 }) ≡ stride_of more z ns es ps n c who s made
-unfolding stride_of
-stride_is z ns es ps n c who s more made ps₁ f ns' es' ps' t e h = rw (← e, ← h)
-
--- a stride in its two parts
+-- ---- what a stride leaves, in its two parts
 record Parts (z : Size) (ns es ps : List ℕ) (n : ℕ) (c : Counters) (who : ℕ) (s : Session) (most made : ℕ)
     (ns' es' ps' : List ℕ) (r : Went) : Type 0 where
   pairs : List ℕ
