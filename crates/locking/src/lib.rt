@@ -20,29 +20,27 @@ ghost use Rattle.steps.specs.Steps.{
 ghost use Rattle.nodes.specs.Nodes.{unlocked_both};
 
 use nodes::{KEY, LOCK, NEXT, REMOVED};
-use steps::{Phase, Stepped, Task};
+use steps::{Phase, Stepped, Task, Who};
 use terms::Answer;
 
 // A lock word that is free or the session's own.
 #[tactic(auto, unfolding(steps::specs::Steps::free))]
-fn is_free(who: u32, word: u32) -> bool
-    requires { who < 16 }
-    ensures { result ≡ free who word }
+fn is_free(who: Who, word: u32) -> bool
+    ensures { result ≡ free who.number word }
 {
-    word == 0 || word == who + 1
+    word == 0 || word == who.number + 1
 }
 
 #[tactic(auto, unfolding(steps::specs::Steps::lock_step))]
-pub fn lock(task: Task, nodes: &mut [u32], who: u32, node: u32, here: Phase, then: Phase) -> Stepped
-    requires { who < 16 }
+pub fn lock(task: Task, nodes: &mut [u32], who: Who, node: u32, here: Phase, then: Phase) -> Stepped
     ensures { moved nodes.new result
-        ≡ lock_step task.size nodes.old task.counters who task.op node here then }
+        ≡ lock_step task.size nodes.old task.counters who.number task.op node here then }
 {
     if task.size.nodes <= node {
         return task.damaged(here);
     }
     if is_free(who, nodes::node(nodes, node, LOCK)) {
-        nodes::put(nodes, node, LOCK, who + 1);
+        nodes::put(nodes, node, LOCK, who.number + 1);
         return task.work(then);
     }
     task.wait(here)

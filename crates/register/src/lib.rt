@@ -22,7 +22,7 @@ ghost use Rattle.register.specs.Register.{
 };
 
 use nodes::{KEY, NEWEST, NEXT};
-use steps::{Phase, Session, Stepped, Task};
+use steps::{Phase, Session, Stepped, Task, Who};
 use terms::{Answer, Counters, Op, Refusal, Size};
 
 // What a start returns: the session's record afterwards, and the answer.
@@ -142,9 +142,9 @@ pub fn step(nodes: &mut [u32], entries: &mut [u32], c: Counters, who: u32, s: Se
     if !right_lengths(task.size, nodes, entries) {
         return task.refuse(s.phase, Refusal::BadTable);
     }
-    if 16 <= who {
+    let Some(who) = Who::new(who) else {
         return task.refuse(s.phase, Refusal::BadSession);
-    }
+    };
     if steps::busy(s) {
         return list::act(task, nodes, entries, who, s.phase);
     }

@@ -1,11 +1,11 @@
 // The list's session record, what a step returns, and the small functions that build both.
-// In order: phases and records; what a step is given and returns; where a walk and a lock lead; whether a session is
-// busy.
+// In order: phases and records; who steps; what a step is given and returns; where a walk and a lock lead; whether a
+// session is busy.
 // Not here: the phases' own functions (crates reading, locking, preparing, finishing). specs/Steps.antt defines every
 // step. Assumes nothing.
 #![tactic(auto)]
 
-ghost use Rattle.std.specs.Prelude.{◌≡◌};
+ghost use Rattle.std.specs.Prelude.{◌≡◌, ◌<◌, ◌≤◌, ◌↔◌, IfSome, IsNone};
 ghost use Rattle.steps.specs.Steps.{
   idle,
   gives,
@@ -166,6 +166,25 @@ impl Query {
 pub struct Session {
     pub op: Op,
     pub phase: Phase,
+}
+
+// One of the sixteen sessions.
+#[derive(Clone, Copy)]
+pub struct Who {
+    pub number: u32,
+    ghost one_of_sixteen: { number < 16 },
+}
+
+impl Who {
+    pub fn new(number: u32) -> Option<Who>
+        ensures same { IfSome result (λ who. who.number ≡ number) }
+        ensures none { IsNone result ↔ (16 ≤ number) }
+    {
+        if number < 16 {
+            return Some(Who { number });
+        }
+        None
+    }
 }
 
 // What a step returns beside the tables: the counters, the session's record afterwards, and the answer.
