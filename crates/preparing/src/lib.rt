@@ -1,5 +1,5 @@
 // Prepare of both updates: the wait, the counters, and the two pending entries.
-// In order: is a newest entry pending; laying an entry in a node's bundle; room, of an insert and of a remove; Prepare.
+// In order: is a newest entry pending; laying an entry in a node's bundle; room for both updates; Prepare.
 // Not here: what they mean (crate steps, specs/Steps.antt). Assumes nothing.
 #![tactic(auto)]
 
