@@ -1,5 +1,5 @@
--- Ways out of Number, Link and Finish where no test fails, over plain values: what was read and tested, and what the step
--- then is. The crates above cite them.
+-- Ways out of Number, Link and Finish where no test fails, over plain values: what was read and tested, and what the
+-- step then is. The crates above cite them.
 -- In order: Number; Link; Finish. Assumes nothing.
 use Prim.Native.Nat.{ℕ, ◌+◌, ◌<◌}
 use mathlib.Core.Path.{◌≡◌}

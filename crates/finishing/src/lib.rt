@@ -36,23 +36,34 @@ pub fn number(task: Task, laid: Laid) -> Stepped
     raised.work(laid.linking(stamp + 1))
 }
 
-#[tactic(auto, unfolding(steps::specs::Steps::link_step, steps::specs::Steps::insert_link, steps::specs::Steps::remove_link))]
+#[tactic(auto, unfolding(steps::specs::Steps::remove_link))]
+fn link_remove(task: Task, nodes: &mut [u32], laid: Laid, number: u32) -> Stepped
+    ensures { moved nodes.new result
+        ≡ remove_link task.size nodes.old task.counters task.op laid.pred laid.node laid.lower
+        laid.upper number }
+{
+    if task.size.nodes <= laid.pred || task.size.nodes <= laid.node {
+        return task.damaged(laid.linking(number));
+    }
+    let next = nodes::node(nodes, laid.node, NEXT);
+    nodes::put(nodes, laid.node, REMOVED, 1);
+    nodes::put(nodes, laid.pred, NEXT, next);
+    task.work(laid.finishing(number))
+}
+
+#[tactic(auto, unfolding(steps::specs::Steps::link_step, steps::specs::Steps::insert_link))]
 pub fn link(task: Task, nodes: &mut [u32], laid: Laid, number: u32) -> Stepped
     ensures { moved nodes.new result
         ≡ link_step task.size nodes.old task.counters task.op laid.pred laid.node laid.lower
         laid.upper number }
 {
-    let removes = terms::removes(task.op);
-    if task.size.nodes <= laid.pred || removes && task.size.nodes <= laid.node {
+    if terms::removes(task.op) {
+        return link_remove(task, nodes, laid, number);
+    }
+    if task.size.nodes <= laid.pred {
         return task.damaged(laid.linking(number));
     }
-    if removes {
-        let next = nodes::node(nodes, laid.node, NEXT);
-        nodes::put(nodes, laid.node, REMOVED, 1);
-        nodes::put(nodes, laid.pred, NEXT, next);
-    } else {
-        nodes::put(nodes, laid.pred, NEXT, laid.node);
-    }
+    nodes::put(nodes, laid.pred, NEXT, laid.node);
     task.work(laid.finishing(number))
 }
 

@@ -1,5 +1,5 @@
--- Ways out of Prepare where nothing is damaged, over plain values: what was read and tested, and what the step then is.
--- The crates above cite them.
+-- Ways out of Prepare where nothing is damaged, over plain values: what was read and tested, and what the step then
+-- is. The crates above cite them.
 -- In order: is a newest entry pending; laying; room; Prepare. Assumes nothing.
 use Rattle.std.specs.Prelude.{Result, Ok, Err}
 use Prim.Native.Nat.{ℕ, ◌+◌, ◌≤◌, ◌<◌}
@@ -24,13 +24,15 @@ use Rattle.steps.specs.Steps.{insert_prepare, remove_prepare, prepare_step}
 
 -- ---- is a newest entry pending
 module _ (z : Size) (ns es : List ℕ) (node : ℕ) where
-  pub held_is : (h : Result (Unit {0}) Held) (f : ℕ) → node < z.nodes → f ≡ newest_at ns node → h ≡ held_of z.entries es f
-      → h ≡ held_at z ns es node
+  pub held_is : (h : Result (Unit {0}) Held) (f : ℕ) → node < z.nodes → f ≡ newest_at ns node
+      → h ≡ held_of z.entries es f → h ≡ held_at z ns es node
   unfolding held_at
   held_is h f in_table link e = rw (lt-ltb _ _ in_table, e, link)
 
-module _ (z : Size) (ns es : List ℕ) (pred curr : ℕ) (a : Result (Unit {0}) Held) (first : a ≡ held_at z ns es pred) where
-  pub either_free : (b : Result (Unit {0}) Held) → a ≡ Ok tt → b ≡ held_at z ns es curr → b ≡ held_either z ns es pred curr
+module _ (z : Size) (ns es : List ℕ) (pred curr : ℕ) (a : Result (Unit {0}) Held)
+    (first : a ≡ held_at z ns es pred) where
+  pub either_free : (b : Result (Unit {0}) Held) → a ≡ Ok tt → b ≡ held_at z ns es curr
+      → b ≡ held_either z ns es pred curr
   either_free b e h = rw (← first, e, h)
 
   pub either_waits : a ≡ Err Held.Wait → Err Held.Wait ≡ held_either z ns es pred curr
