@@ -82,8 +82,8 @@ only_fresh_register c = one (fresh_register c)
 
 -- ---- bundle, over a table of any size
 module _ (es : List ℕ) where
-  pub only_read_at : (size newest s : ℕ) (r₁ r₂ : Result ℕ Held) → r₁ ≡ at_of size es newest s → r₂ ≡ at_of size es newest s →
-      r₁ ≡ r₂
+  pub only_read_at : (size newest s : ℕ) (r₁ r₂ : Result ℕ Held) → r₁ ≡ at_of size es newest s →
+      r₂ ≡ at_of size es newest s → r₁ ≡ r₂
   only_read_at size newest s = one (at_of size es newest s)
 
   pub only_read_newest : (size newest : ℕ) (r₁ r₂ : Result ℕ Held) → r₁ ≡ newest_of size es newest →
@@ -91,8 +91,8 @@ module _ (es : List ℕ) where
       r₁ ≡ r₂
   only_read_newest size newest = one (newest_of size es newest)
 
-  pub only_newest_held : (size newest : ℕ) (r₁ r₂ : Result (Unit {0}) Held) → r₁ ≡ held_of size es newest → r₂ ≡ held_of size es newest →
-      r₁ ≡ r₂
+  pub only_newest_held : (size newest : ℕ) (r₁ r₂ : Result (Unit {0}) Held) → r₁ ≡ held_of size es newest →
+      r₂ ≡ held_of size es newest → r₁ ≡ r₂
   only_newest_held size newest = one (held_of size es newest)
 
   pub only_lay : (e target stamp older : ℕ) (es₁ es₂ : List ℕ) → es₁ ≡ lay_of es e target stamp older →

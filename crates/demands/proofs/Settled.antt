@@ -288,7 +288,8 @@ module _ (z : Size) (ns es : List ℕ) (c : Counters) (op : Op) where
   read_settles : (at : ℕ) (here : Phase) (next : ℕ → Stepped) → at < z.nodes →
       ((to : ℕ) (W : Type 0) → ¬ W → Settled (FarNode z at ⊎ FarNode z to) ⊥ W ns es c op here
       (done ns es (next to))) →
-      (seen : Result ℕ Held) → Settled (FarNode z at ⊎ Misled z seen) ⊥ ((at < z.nodes) × (seen ≡ Err Held.Wait)) ns es c op here
+      (seen : Result ℕ Held) →
+      Settled (FarNode z at ⊎ Misled z seen) ⊥ ((at < z.nodes) × (seen ≡ Err Held.Wait)) ns es c op here
       (done ns es (on_read c op here seen next))
   read_settles at here next near sees (Err Held.Wait) = halts (neither (λ far. omega arith) none) none (near, refl)
   read_settles at here next near sees (Ok to) = sees to _ (λ w. take≢wait to w.1)
@@ -314,7 +315,8 @@ module _ (z : Size) (ns es : List ℕ) (c : Counters) (op : Op) where
   unfolding newest_step
   newest_settles at =
       let seen = newest_of z.entries es (newest_at ns at) in
-      let R : Stepped → Type 0 = λ r. Settled (FarNode z at ⊎ Misled z seen) ⊥ ((at < z.nodes) × (seen ≡ Err Held.Wait))
+      let R : Stepped → Type 0 = λ r.
+      Settled (FarNode z at ⊎ Misled z seen) ⊥ ((at < z.nodes) × (seen ≡ Err Held.Wait))
       ns es c op (Phase.Newest at) (done ns es r) in
       split_cases R _ _ (split_lt at z.nodes)
       (λ near. read_settles at (Phase.Newest at) (has_sees z ns c op at) near (λ to. has_settles at to near) seen)

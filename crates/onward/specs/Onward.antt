@@ -3,7 +3,8 @@
 -- made, and `more` may be made here.
 -- That these are the steps, one after the other, is proved (crate several, proofs/Far.antt).
 -- Not here: the steps (crate steps). Assumes nothing.
-use Rattle.std.specs.Prelude.{ℕ, zero, suc, ◌+◌, ◌*◌, List, Option, Some, None, Result, Ok, Err, Bool, cond, ◌&&◌, length, ltb, leb}
+use Rattle.std.specs.Prelude.{ℕ, zero, suc, ◌+◌, ◌*◌, List, Bool, cond, ◌&&◌, length, ltb, leb}
+use Rattle.std.specs.Prelude.{Option, Some, None, Result, Ok, Err}
 use Rattle.table.specs.Table.{store_of}
 use Rattle.bundle.specs.Bundle.{at_of}
 use Rattle.bundle.specs.declared.Held.{Held}

@@ -1,7 +1,7 @@
 // The whole runner as one function (document 01, "The runner"): from an input and two lent tables to an output and
 // its length.
-// In order: numbers; why a run writes nothing; a call and its session's record; a turn; the room a run needs; one line;
-// the lines; the run.
+// In order: numbers; why a run writes nothing; a call and its session's record; a turn; the room a run needs; one
+// line; the lines; the run.
 // The sixteen records stay where they are in `serve_lines`: each call is lent one.
 // Not here: lines and answers (crate lines), reading and writing files (crates runner and cases). Assumes nothing.
 #![tactic(auto)]

@@ -1,5 +1,5 @@
-// What the programs that run cases print of a refusal of the listing's crates: `refused=` and document 01's number, and
-// of a listing that is not allowed the offset too, after a comma.
+// What the programs that run cases print of a refusal of the listing's crates: `refused=` and document 01's number,
+// and of a listing that is not allowed the offset too, after a comma.
 // In order: of writing; of reading and loading. Each returns the error of the first write that fails.
 // Not here: the runner's answers (crate lines). No contract can say what is written.
 #![tactic(auto)]

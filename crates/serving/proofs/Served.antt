@@ -36,7 +36,8 @@ first_read m n (Some xs) (Some zs) buf is le h e =
 
 -- ---- the answers
 
-pub answered : (known before after : Option (List ℕ)) (input ns es out ns' es' out' : List ℕ) (end : Result ℕ Unrun) (k : ℕ) →
+pub answered : (known before after : Option (List ℕ)) (input ns es out ns' es' out' : List ℕ)
+    (end : Result ℕ Unrun) (k : ℕ) →
     IfSome known (λ xs. take 16385 xs ≡ input) →
     length ns ≡ 3072 → length es ≡ 8192 → length out ≡ 180224 →
     outcome ns' es' out' end ≡ run_of small input ns es out → end ≡ Ok k →

@@ -271,7 +271,8 @@ module _ (z : Size) (ns es : List ℕ) (c : Counters) where
       either D (ltb z.nodes c.nodes || ltb z.entries (c.entries + 2)) _ _ (as_was _ refl)
       (keeps_both _ _ _ (omega arith) (remove_laid_lem p q))
 
-  held_keeps : (op : Op) (here : Phase) (held : Result (Unit {0}) Held) (next : Done) → D next → D (on_held ns es c op here held next)
+  held_keeps : (op : Op) (here : Phase) (held : Result (Unit {0}) Held) (next : Done) → D next
+      → D (on_held ns es c op here held next)
   held_keeps op here (Ok tt) next k = k
   held_keeps op here (Err Held.Wait) next k = as_was _ refl
   held_keeps op here (Err Held.Damaged) next k = as_was _ refl

@@ -8,8 +8,8 @@ use Rattle.several.proofs.steps.Given as goal
 
 abbrev pub invariant-loop-last : goal.invariant-loop-last
 invariant-loop-last l = record {
-  rest : Rest (several_of small l.fn.nodes l.fn.entries l.fn.pairs l.fn.c l.who l.fn.s l.limit) small l.who l.most l.made
-      l.nodes l.entries l.pairs l.count l.counters l.session;
+  rest : Rest (several_of small l.fn.nodes l.fn.entries l.fn.pairs l.fn.c l.who l.fn.s l.limit) small l.who l.most
+      l.made l.nodes l.entries l.pairs l.count l.counters l.session;
   few_pairs : l.count ≤ l.made;
   few_steps : l.made ≤ l.most;
   most_fits : l.most < 4294967295;
