@@ -1,6 +1,7 @@
 -- The bundle's promise: what the list may cite, and nothing else of the bundle.
 -- In order: the words after laying and finishing; frames (a row that does not own an entry stays as it is); laying;
 -- finishing; reading. That rows are apart is asked for (`¬ List.Memᴰ e own`), never assumed. Assumes nothing.
+use Rattle.std.specs.Prelude.{Result, Ok, Err}
 use Prim.Native.Nat.{ℕ, zero, suc, ◌+◌, ◌-◌, ◌*◌, ◌≤◌, ◌<◌}
 use mathlib.Core.Path.{◌≡◌, refl, sym, ◌∙◌, subst}
 use mathlib.Core.Logic.{inl, inr, ◌≢◌}
@@ -16,6 +17,7 @@ use Rattle.order.specs.Rows.{Row, look, Bundle, final, pending, found, read_at, 
 use Rattle.bundle.specs.Bundle.{word_at, put_at, look_of, go_on, scan_of, holds_up, at_of, newest_of, held_of, lay_of}
 use Rattle.bundle.specs.Bundle.{finish_of}
 use Rattle.bundle.specs.Shows.{Entry, RowAt, Shows, as_read, as_held}
+use Rattle.bundle.specs.declared.Held.{Held}
 use Rattle.bundle.specs.declared.Look.{Look}
 use Rattle.bundle.proofs.Ways.{look_none, look_taken, look_above, look_pending, up_none, up_final, up_pending}
 use Rattle.bundle.proofs.Ways.{newest_none, newest_final, newest_pending, held_none, held_final, held_pending}
@@ -206,16 +208,16 @@ module _ (size : ℕ) (es : List ℕ) (link e t st m : ℕ) (r : Entry size es l
   older_word : word_at es e 3 ≡ word_at es (link - 1) 3
   older_word = rw back refl
 
-  entry_taken : (s : ℕ) → m ≡ 0 → st ≤ s → look_of size es link s ≡ Look.Taken t
+  entry_taken : (s : ℕ) → m ≡ 0 → st ≤ s → look_of size es link s ≡ Ok (Look.Taken t)
   entry_taken s is_final low =
       sym (look_taken size es link s some_link in_table m mark_word st t is_final stamp_word low target_word)
 
-  entry_above : (s : ℕ) → m ≡ 0 → s < st → look_of size es link s ≡ Look.Passed (word_at es e 3)
+  entry_above : (s : ℕ) → m ≡ 0 → s < st → look_of size es link s ≡ Ok (Look.Passed (word_at es e 3))
   entry_above s is_final high =
       sym (look_above size es link s some_link in_table m mark_word st (word_at es e 3) is_final stamp_word high
       older_word)
 
-  entry_pending : (s : ℕ) → (m ≡ 0 → ⊥) → look_of size es link s ≡ Look.Passed (word_at es e 3)
+  entry_pending : (s : ℕ) → (m ≡ 0 → ⊥) → look_of size es link s ≡ Ok (Look.Passed (word_at es e 3))
   entry_pending s pends =
       sym (look_pending size es link s some_link in_table m mark_word (word_at es e 3) pends older_word)
 
@@ -227,7 +229,7 @@ module _ (size : ℕ) (es : List ℕ) (link e t st m : ℕ) (r : Entry size es l
 
 module _ (size : ℕ) (es : List ℕ) (s : ℕ) where
   -- one more entry of a scan
-  scan_on : (left link : ℕ) (o : Look) → look_of size es link s ≡ o
+  scan_on : (left link : ℕ) (o : Result Look Held) → look_of size es link s ≡ o
       → scan_of (suc left) size es link s ≡ go_on o (λ older. scan_of left size es older s)
   unfolding scan_of
   scan_on left link o e = rw e
@@ -236,7 +238,7 @@ module _ (size : ℕ) (es : List ℕ) (s : ℕ) where
       → scan_of left size es link s ≡ as_read (found (look s row))
   unfolding scan_of look
   scan_is_look [] [] link zero room r = refl
-  scan_is_look [] [] link (suc left) room r = scan_on left link Look.Broken (sym (look_none size es link s r))
+  scan_is_look [] [] link (suc left) room r = scan_on left link (Err Held.Damaged) (sym (look_none size es link s r))
   scan_is_look [] (p ∷ row) link left room r = absurd r
   scan_is_look (e ∷ own) [] link left room r = absurd r
   scan_is_look (e ∷ own) (p ∷ row) link zero room r = absurd (omega arith)

@@ -1,8 +1,9 @@
 -- The entries table: its words, and the bundle rules over any content of it (document 01, B1 to B4).
--- In order: words; one entry of a scan; rule B3; rule B4; is the newest pending; laying; finishing. `size` is how
--- many entries the table holds; `es` is the table; a link is 0 for none, else an entry's number and one more.
+-- In order: words; the entry of a link; one of a scan; rule B3; rule B4; is the newest pending; laying; finishing.
+-- `size` is how many entries the table holds; `es` is the table; a link is 0 for none, else an entry's number and one
+-- more.
 -- Not here: rows as lists and what these definitions are of them (specs/Shows.antt). Assumes nothing.
-use Rattle.std.specs.Prelude.{Result, Ok, Err}
+use Rattle.std.specs.Prelude.{Option, Some, None, Result, Ok, Err}
 use Rattle.std.specs.Prelude.{ℕ, zero, suc, ◌-◌, List, Bool, false, cond, ltb, leb, eqb}
 use Rattle.table.specs.Table.{word_of, store_of}
 use Rattle.bundle.specs.declared.Held.{Held}
@@ -19,21 +20,25 @@ put_at es e k v = store_of 4 es e k v
 abbrev pub names : ℕ → ℕ → Bool
 names size link = cond (eqb link 0) false (leb link size)
 
+-- the entry that it names
+unfoldable pub entry_of : ℕ → ℕ → Option ℕ
+entry_of size link = cond (names size link) (Some (link - 1)) None
+
 -- ---- one entry of a scan at snapshot s: taken where it is final and not above s, else passed for the older one
-unfoldable pub look_of : ℕ → List ℕ → ℕ → ℕ → Look
+unfoldable pub look_of : ℕ → List ℕ → ℕ → ℕ → Result Look Held
 look_of size es link s =
     cond (names size link)
     (cond (eqb (word_at es (link - 1) 2) 0)
     (cond (leb (word_at es (link - 1) 1) s)
-    (Look.Taken (word_at es (link - 1) 0))
-    (Look.Passed (word_at es (link - 1) 3)))
-    (Look.Passed (word_at es (link - 1) 3)))
-    Look.Broken
+    (Ok (Look.Taken (word_at es (link - 1) 0)))
+    (Ok (Look.Passed (word_at es (link - 1) 3))))
+    (Ok (Look.Passed (word_at es (link - 1) 3))))
+    (Err Held.Damaged)
 
-abbrev pub go_on : Look → (ℕ → Result ℕ Held) → Result ℕ Held
-go_on (Look.Taken t) on = Ok t
-go_on (Look.Passed older) on = on older
-go_on Look.Broken on = Err Held.Damaged
+abbrev pub go_on : Result Look Held → (ℕ → Result ℕ Held) → Result ℕ Held
+go_on (Ok (Look.Taken t)) on = Ok t
+go_on (Ok (Look.Passed older)) on = on older
+go_on (Err why) on = Err why
 
 -- a scan that passes at most so many entries
 unfoldable pub scan_of : ℕ → ℕ → List ℕ → ℕ → ℕ → Result ℕ Held
