@@ -5,7 +5,7 @@
 #![tactic(auto)]
 
 ghost use Rattle.std.specs.Prelude.{◌≡◌};
-ghost use Rattle.nodes.specs.Nodes.{node_at, put_node, unlocked, unlocked_both, named_node, clear_node, new_node};
+ghost use Rattle.nodes.specs.Nodes.{node_at, put_node, unlocked, unlocked_both, new_node};
 
 // 6 words a node.
 const WIDTH: u32 = 6;
@@ -50,26 +50,15 @@ pub fn unlock_both(nodes: &mut [u32], pred: u32, curr: u32, both: bool)
     }
 }
 
-fn name_node(nodes: &mut [u32], n: u32, key: u32, value: u32, next: u32)
-    ensures { nodes.new ≡ named_node nodes.old n key value next }
+// Not locked, not removed, with an empty bundle.
+#[tactic(auto, unfolding(crate::specs::Nodes::named_node, crate::specs::Nodes::clear_node))]
+pub fn new_node(nodes: &mut [u32], n: u32, key: u32, value: u32, next: u32)
+    ensures { nodes.new ≡ new_node nodes.old n key value next }
 {
     put(nodes, n, KEY, key);
     put(nodes, n, VALUE, value);
     put(nodes, n, NEXT, next);
-}
-
-fn clear_node(nodes: &mut [u32], n: u32)
-    ensures { nodes.new ≡ clear_node nodes.old n }
-{
     put(nodes, n, LOCK, 0);
     put(nodes, n, REMOVED, 0);
     put(nodes, n, NEWEST, 0);
-}
-
-// Not locked, not removed, with an empty bundle.
-pub fn new_node(nodes: &mut [u32], n: u32, key: u32, value: u32, next: u32)
-    ensures { nodes.new ≡ new_node nodes.old n key value next }
-{
-    name_node(nodes, n, key, value, next);
-    clear_node(nodes, n);
 }

@@ -1,2 +1,0 @@
--- Each way through the node table's functions.
-pub mod Ways
