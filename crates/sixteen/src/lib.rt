@@ -37,26 +37,23 @@ pub struct Served {
     pub answer: Answer,
 }
 
+// A session above 15 has none, and counts as idle until it is refused.
 fn session_at(sessions: [Session; 16], who: u32) -> Session
     ensures { result ≡ session_of sessions who }
 {
-    if who < 16 {
-        let i = who as usize;
-        return sessions[i];
-    }
-    steps::idle_session()
+    sessions
+        .get(who as usize)
+        .copied()
+        .unwrap_or(steps::idle_session())
 }
 
-fn with_session(sessions: [Session; 16], who: u32, s: Session) -> [Session; 16]
+fn with_session(mut sessions: [Session; 16], who: u32, s: Session) -> [Session; 16]
     ensures { result ≡ set sessions who s }
 {
-    let mut next = sessions;
     if who < 16 {
-        let i = who as usize;
-        next[i] = s;
-        return next;
+        sessions[who as usize] = s;
     }
-    next
+    sessions
 }
 
 // Sixteen idle records beside a fresh register's counters.
@@ -71,31 +68,32 @@ pub fn fresh_register(counters: Counters) -> Register
 fn serve_start(nodes: &[u32], entries: &[u32], g: Register, who: u32, op: Op) -> Served
     ensures { result ≡ serve_start small nodes.now entries.now g who op }
 {
-    let counters = g.counters;
-    let all = g.sessions;
-    let s = session_at(all, who);
+    let s = session_at(g.sessions, who);
     let out = register::start(nodes, entries, who, s, op);
-    let answer = out.answer;
-    let next = out.session;
-    let sessions = with_session(all, who, next);
-    let register = Register { counters, sessions };
-    Served { register, answer }
+    let register = Register {
+        counters: g.counters,
+        sessions: with_session(g.sessions, who, out.session),
+    };
+    Served {
+        register,
+        answer: out.answer,
+    }
 }
 
 fn serve_step(nodes: &mut [u32], entries: &mut [u32], g: Register, who: u32) -> Served
     ensures { served nodes.new entries.new result
         ≡ serve_step small nodes.old entries.old g who }
 {
-    let c = g.counters;
-    let all = g.sessions;
-    let s = session_at(all, who);
-    let out = register::step(nodes, entries, c, who, s);
-    let counters = out.counters;
-    let answer = out.answer;
-    let next = out.session;
-    let sessions = with_session(all, who, next);
-    let register = Register { counters, sessions };
-    Served { register, answer }
+    let s = session_at(g.sessions, who);
+    let out = register::step(nodes, entries, g.counters, who, s);
+    let register = Register {
+        counters: out.counters,
+        sessions: with_session(g.sessions, who, out.session),
+    };
+    Served {
+        register,
+        answer: out.answer,
+    }
 }
 
 pub fn serve(nodes: &mut [u32], entries: &mut [u32], g: Register, call: Call) -> Served

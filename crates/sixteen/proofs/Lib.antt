@@ -1,2 +1,0 @@
--- Each way through the calls over sixteen records.
-pub mod Ways
