@@ -22,8 +22,7 @@ pub fn step_in_place(
         ≡ step_of small nodes.old entries.old c who session.old)
         × (session.new ≡ result.session) }
 {
-    let s = *session;
-    let out = register::step(nodes, entries, c, who, s);
+    let out = register::step(nodes, entries, c, who, *session);
     *session = out.session;
     out
 }
