@@ -33,8 +33,7 @@ fn written_reply(w: Result<usize, Unwritten>) -> Reply
             first: (n % 4294967296) as u32,
             ..Reply::default()
         },
-        Err(Unwritten::NoRoom) => packing::refused(11),
-        Err(Unwritten::BadPairs) => packing::refused(12),
+        Err(why) => packing::refused(u32::from(why)),
     }
 }
 
@@ -67,13 +66,11 @@ fn loaded_reply(l: Result<Counters, Unloaded>) -> Reply
             first: c.stamp,
             ..Reply::default()
         },
-        Err(Unloaded::BadTable) => Reply::from(Refusal::BadTable),
-        Err(Unloaded::BadListing(offset)) => Reply {
-            name: 0,
-            first: 9,
+        Err(why @ Unloaded::BadListing(offset)) => Reply {
             second: (offset % 4294967296) as u32,
+            ..packing::refused(u32::from(why))
         },
-        Err(Unloaded::TooMany) => packing::refused(10),
+        Err(why) => packing::refused(u32::from(why)),
     }
 }
 

@@ -5,11 +5,15 @@ use Rattle.std.specs.Prelude.{ℕ, ◌+◌, ◌≤◌, ◌<◌, ◌≡◌, List,
 use Rattle.text.specs.Text.{largest}
 use Rattle.listing.specs.declared.Unwritten.{Unwritten}
 
+-- a refusal's number
+abbrev pub unwritten_number : Unwritten → ℕ
+unwritten_number Unwritten.NoRoom = 11
+unwritten_number Unwritten.BadPairs = 12
+
 -- the refusal number, and 0 for what is no refusal
 abbrev pub number_of : Result ℕ Unwritten → ℕ
 number_of (Ok n) = 0
-number_of (Err Unwritten.NoRoom) = 11
-number_of (Err Unwritten.BadPairs) = 12
+number_of (Err why) = unwritten_number why
 
 -- the numbers that the answer gives
 abbrev pub values_of : Result ℕ Unwritten → List ℕ

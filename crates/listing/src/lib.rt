@@ -8,12 +8,25 @@ ghost use Rattle.std.specs.Prelude.{◌≡◌, ◌+◌, ◌≤◌, length};
 ghost use Rattle.text.specs.Text.{Puts};
 ghost use Rattle.listing.specs.Listing.{field_of, pair_of, pairs, head_of, body_of, listing_of};
 ghost use Rattle.listing.specs.Listing.{key_room, rising, good_pairs, done, write_of};
+ghost use Rattle.listing.specs.Refusals.{unwritten_number};
 
-// Why nothing was written: 11 or 12.
+// Why nothing was written.
 #[derive(Clone, Copy)]
 pub enum Unwritten {
     NoRoom,
     BadPairs,
+}
+
+// Document 01's number of a refusal.
+impl From<Unwritten> for u32 {
+    ghost from_gives = { λ why n. n ≡ unwritten_number why };
+
+    fn from(why: Unwritten) -> u32 {
+        match why {
+            Unwritten::NoRoom => 11,
+            Unwritten::BadPairs => 12,
+        }
+    }
 }
 
 // Keys, each with its value at the same place.

@@ -2,9 +2,7 @@
 -- In order: document 01's numbers; the answer and the tables; loading.
 -- Not here: the tables' words (Filing), what 9 and 10 mean (crate scanning). Assumes nothing.
 use Rattle.std.specs.Prelude.{ℕ, List, [], ◌∷◌, cond, Result, Ok, Err}
-use Rattle.terms.specs.Terms.{refusal_number}
 use Rattle.terms.specs.declared.Size.{Size}
-use Rattle.terms.specs.declared.Refusal.{Refusal}
 use Rattle.steps.specs.Steps.{Tables, tables}
 use Rattle.register.specs.Register.{fits}
 use Rattle.text.specs.Text.{lines_of}
@@ -12,7 +10,7 @@ use Rattle.listing.specs.Listing.{key_name, value_name}
 use Rattle.scanning.specs.Reading.{check_of, numbers_in}
 use Rattle.scanning.specs.declared.Whole.{Whole}
 use Rattle.scanning.specs.declared.Unread.{Unread}
-use Rattle.loading.specs.Refused.{unloaded}
+use Rattle.loading.specs.Refused.{unloaded, unloaded_number}
 use Rattle.loading.specs.Filing.{used, filed_all, fresh_tables}
 use Rattle.terms.specs.declared.Counters.{Counters}
 use Rattle.loading.specs.declared.Unloaded.{Unloaded}
@@ -20,9 +18,7 @@ use Rattle.loading.specs.declared.Unloaded.{Unloaded}
 -- the refusal number, and 0 for what is no refusal
 abbrev pub number_of : Result Counters Unloaded → ℕ
 number_of (Ok c) = 0
-number_of (Err Unloaded.BadTable) = refusal_number Refusal.BadTable
-number_of (Err (Unloaded.BadListing p)) = 9
-number_of (Err Unloaded.TooMany) = 10
+number_of (Err why) = unloaded_number why
 
 -- the numbers that the answer gives: the counters, or the offset
 abbrev pub values_of : Result Counters Unloaded → List ℕ

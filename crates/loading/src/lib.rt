@@ -8,16 +8,16 @@ ghost use Rattle.std.specs.Prelude.{◌≡◌, true, ◌+◌, ◌≤◌, ◌<◌
 ghost use Rattle.terms.specs.Terms.{small};
 ghost use Rattle.steps.specs.Steps.{tables};
 ghost use Rattle.register.specs.Register.{fits};
-ghost use Rattle.loading.specs.Refused.{unloaded};
+ghost use Rattle.loading.specs.Refused.{unloaded, unloaded_number};
 ghost use Rattle.loading.specs.Filing.{used, pred_of, prepared_nodes, filed_nodes};
 ghost use Rattle.loading.specs.Filing.{prepared_entries, filed_entries, filed, filed_all, fresh_tables};
 ghost use Rattle.loading.specs.Loading.{done, load_of};
 
 use nodes::{NEWEST, NEXT};
 use scanning::Unread;
-use terms::Counters;
+use terms::{Counters, Refusal};
 
-// Why no register was loaded: 7, 9 with its offset, or 10.
+// Why no register was loaded: a listing that is not allowed with its offset.
 #[derive(Clone, Copy)]
 pub enum Unloaded {
     BadTable,
@@ -32,6 +32,19 @@ impl From<Unread> for Unloaded {
         match e {
             Unread::BadListing(place) => Unloaded::BadListing(place),
             Unread::TooMany => Unloaded::TooMany,
+        }
+    }
+}
+
+// Document 01's number of a refusal.
+impl From<Unloaded> for u32 {
+    ghost from_gives = { λ why n. n ≡ unloaded_number why };
+
+    fn from(why: Unloaded) -> u32 {
+        match why {
+            Unloaded::BadTable => u32::from(Refusal::BadTable),
+            Unloaded::BadListing(_) => 9,
+            Unloaded::TooMany => 10,
         }
     }
 }

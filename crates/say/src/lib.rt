@@ -9,16 +9,13 @@ use loading::Unloaded;
 use std::io;
 
 pub fn unwritten(rt: &impl Print, why: Unwritten) -> io::Result<()> {
-    match why {
-        Unwritten::NoRoom => println!(rt; "refused=11"),
-        Unwritten::BadPairs => println!(rt; "refused=12"),
-    }
+    println!(rt; "refused={}", u32::from(why))
 }
 
 pub fn unloaded(rt: &impl Print, why: Unloaded) -> io::Result<()> {
+    let number = u32::from(why);
     match why {
-        Unloaded::BadTable => println!(rt; "refused=7"),
-        Unloaded::BadListing(offset) => println!(rt; "refused=9,{offset}"),
-        Unloaded::TooMany => println!(rt; "refused=10"),
+        Unloaded::BadListing(offset) => println!(rt; "refused={number},{offset}"),
+        _ => println!(rt; "refused={number}"),
     }
 }
