@@ -1,16 +1,11 @@
--- The line at a place: what the run's loop reads at each turn.
+-- One line as the input is cut: with its byte 10, but maybe for the last.
 -- That the run over all lines begins with it is a law (proofs/OneLine.antt). Assumes nothing.
-use Rattle.std.specs.Prelude.{ℕ, ◌+◌, ◌-◌, List, cond, length, take, drop, ltb}
-use Rattle.text.specs.Text.{line_length}
-use Rattle.std.specs.Prelude.{Option, None}
+use Rattle.std.specs.Prelude.{ℕ, ◌-◌, List, [], ◌∷◌, cond, length, take, drop, eqb, Option, None}
+use Rattle.std.specs.Cmp.Lexicographic.{pointwise}
 use Rattle.sixteen.specs.declared.Call.{Call}
 use Rattle.lines.specs.Lines.{line_in}
 
--- the bytes from p to e are a line where byte 10 stands at e, and bad where the input ends there
-abbrev pub read_to : List ℕ → ℕ → ℕ → Option Call × ℕ
-read_to s p e =
-    cond (ltb e (length s)) (line_in (take (e - p) (drop p s)), e + 1)
-    (None, e)
-
-unfoldable pub read_at : List ℕ → ℕ → Option Call × ℕ
-read_at s p = read_to s p (p + line_length (drop p s))
+-- what stands before byte 10 is the line; without byte 10 it is bad, whatever it says
+unfoldable pub call_in : List ℕ → Option Call
+call_in x =
+    cond (pointwise eqb (drop (length x - 1) x) (10 ∷ [])) (line_in (take (length x - 1) x)) None

@@ -13,7 +13,7 @@ ghost use Rattle.steps.specs.Steps.{done};
 ghost use Rattle.sixteen.specs.Sixteen.{fresh_register};
 ghost use Rattle.running.specs.Running.{caller_of, lines_run, wrote, write_at, room_for, outcome, run_of};
 ghost use Rattle.running.specs.OneRecord.{slot_of, call_of, turned, turn_of};
-ghost use Rattle.running.specs.OneLine.{read_at};
+ghost use Rattle.running.specs.OneLine.{call_in};
 
 use sixteen::Call;
 use steps::{Session, Stepped};
@@ -96,18 +96,12 @@ fn room(n: usize) -> usize
     if n <= LONGEST { 11 * n } else { 11 }
 }
 
-// The call that the line at `place` is, if it is one, and the place after its byte 10. A last line without byte 10 is
-// none, whatever it says.
-fn line_at(input: &[u8], place: usize) -> (Option<Call>, usize)
-    requires { place ≤ length input.now }
-    ensures { result ≡ read_at input.now place }
+// The call that a line is, if it is one. A last line, without byte 10, is none, whatever it says.
+#[tactic(auto, unfolding(crate::specs::OneLine::call_in))]
+fn read(line: &[u8]) -> Option<Call>
+    ensures { result ≡ call_in line.now }
 {
-    let e = text::line_end(input, place);
-    let call = lines::read_line(&input[place..e]);
-    if e < input.len() {
-        return (call, e + 1);
-    }
-    (None, e)
+    lines::read_line(line.strip_suffix(b"\n")?)
 }
 
 // The lines one after the other, on the register that the tables hold with the counters c and sixteen idle records.
@@ -125,12 +119,9 @@ fn serve_lines(
 {
     let mut counters = c;
     let mut sessions = [steps::idle_session(); 16];
-    let mut place = 0;
     let mut at = 0;
-    while place < input.len() {
-        let (call, next) = line_at(input, place);
-        place = next;
-        match call {
+    for line in input.split_inclusive(|b| *b == b'\n') {
+        match read(line) {
             None => {
                 at = lines::print_refusal(out, at, BAD_LINE);
             }
