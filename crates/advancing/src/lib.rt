@@ -8,7 +8,7 @@
 // (crate register), storing the words and the answer (crate stepping). Assumes nothing.
 #![tactic(auto)]
 
-ghost use Rattle.std.specs.Prelude.{◌≡◌, ◌<◌};
+ghost use Rattle.std.specs.Prelude.{◌≡◌};
 ghost use Rattle.terms.specs.Terms.{small};
 ghost use Rattle.advancing.specs.Advancing.{
   updates_of,
@@ -25,6 +25,7 @@ ghost use Rattle.advancing.specs.Advancing.{
 
 use encoding::{OpWords, PhaseWords, kind, phase};
 use nodes::{KEY, LOCK, NEXT, REMOVED};
+use steps::Who;
 
 #[tactic(auto, unfolding(crate::specs::Advancing::updates_of))]
 pub fn updates(o: OpWords) -> bool
@@ -48,16 +49,15 @@ fn arrive(nodes: &[u32], sought: u32, curr: u32) -> Option<u32>
 }
 
 #[tactic(auto, unfolding(crate::specs::Advancing::lock_ahead, steps::specs::Steps::free))]
-fn lock(nodes: &mut [u32], who: u32, n: u32, then: u32) -> Option<u32>
-    requires { who < 16 }
-    ensures { advanced nodes.new result ≡ lock_ahead small nodes.old who n then }
+fn lock(nodes: &mut [u32], who: Who, n: u32, then: u32) -> Option<u32>
+    ensures { advanced nodes.new result ≡ lock_ahead small nodes.old who.number n then }
 {
     if 512 <= n {
         return None;
     }
     let word = nodes::node(nodes, n, LOCK);
-    if word == 0 || word == who + 1 {
-        nodes::put(nodes, n, LOCK, who + 1);
+    if word == 0 || word == who.number + 1 {
+        nodes::put(nodes, n, LOCK, who.number + 1);
         return Some(then);
     }
     None
@@ -124,16 +124,15 @@ fn link(nodes: &mut [u32], removes: bool, pred: u32, node: u32) -> Option<u32>
 #[tactic(auto, unfolding(crate::specs::Advancing::early_ahead))]
 fn early(
     nodes: &mut [u32],
-    who: u32,
+    who: Who,
     removes: bool,
     sought: u32,
     phase: u32,
     pred: u32,
     curr: u32,
 ) -> Option<u32>
-    requires { who < 16 }
     ensures { advanced nodes.new result
-        ≡ early_ahead small nodes.old who removes sought phase pred curr }
+        ≡ early_ahead small nodes.old who.number removes sought phase pred curr }
 {
     match phase {
         phase::WALK => arrive(nodes, sought, curr),
@@ -146,9 +145,8 @@ fn early(
 }
 
 #[tactic(auto, unfolding(crate::specs::Advancing::advance_of))]
-pub fn advance(nodes: &mut [u32], who: u32, o: OpWords, p: PhaseWords) -> Option<u32>
-    requires { who < 16 }
-    ensures { advanced nodes.new result ≡ advance_of small nodes.old who o p }
+pub fn advance(nodes: &mut [u32], who: Who, o: OpWords, p: PhaseWords) -> Option<u32>
+    ensures { advanced nodes.new result ≡ advance_of small nodes.old who.number o p }
 {
     if !updates(o) {
         return None;

@@ -14,6 +14,7 @@ ghost use Rattle.stepping.specs.Stepping.{IsAdmitted, heard, went, settled, ende
 use encoding::{PhaseWords, Words, kind, phase};
 use packing::{A, C, PHASE, Reply};
 use shortly::Ranged;
+use steps::Who;
 use terms::{Answer, Counters, Refusal};
 
 // The whole call: one of many steps. No key is looked for in the pair lent to it.
@@ -88,21 +89,21 @@ fn updating(
     entries: &mut [u32],
     words: &mut [u32],
     answer: &mut [u32],
-    who: u32,
+    who: Who,
 ) -> u32
-    requires { IsAdmitted small nodes.old entries.old words.old answer.old who }
+    requires { IsAdmitted small nodes.old entries.old words.old answer.old who.number }
     ensures { left nodes.new entries.new words.new answer.new result
         ≡ step_call small nodes.old entries.old words.old answer.old
-        who }
+        who.number }
 {
-    let o = packing::op_at(words, who);
-    let p = packing::phase_at(words, who);
+    let o = packing::op_at(words, who.number);
+    let p = packing::phase_at(words, who.number);
     match advancing::advance(nodes, who, o, p) {
         Some(phase) => {
             let reply = Reply::from(Answer::Working);
-            go(words, answer, who, PHASE, phase, A, p.a, reply)
+            go(words, answer, who.number, PHASE, phase, A, p.a, reply)
         }
-        None => fully(nodes, entries, words, answer, who),
+        None => fully(nodes, entries, words, answer, who.number),
     }
 }
 
@@ -191,17 +192,17 @@ fn by_phase(
     entries: &mut [u32],
     words: &mut [u32],
     answer: &mut [u32],
-    who: u32,
+    who: Who,
 ) -> u32
-    requires { IsAdmitted small nodes.old entries.old words.old answer.old who }
+    requires { IsAdmitted small nodes.old entries.old words.old answer.old who.number }
     ensures { left nodes.new entries.new words.new answer.new result
         ≡ step_call small nodes.old entries.old words.old answer.old
-        who }
+        who.number }
 {
-    match packing::phase_number(words, who) {
-        phase::FOLLOW.. => ranging(nodes, entries, words, answer, who),
-        phase::NUMBER => numbering(nodes, entries, words, answer, who),
-        phase::FINISH => finishing(nodes, entries, words, answer, who),
+    match packing::phase_number(words, who.number) {
+        phase::FOLLOW.. => ranging(nodes, entries, words, answer, who.number),
+        phase::NUMBER => numbering(nodes, entries, words, answer, who.number),
+        phase::FINISH => finishing(nodes, entries, words, answer, who.number),
         _ => updating(nodes, entries, words, answer, who),
     }
 }
@@ -220,7 +221,10 @@ pub fn otherwise(
         ≡ step_call small nodes.old entries.old words.old answer.old
         who }
 {
-    if answer.len() == 3 && calling::right_lengths(nodes, entries, words) && who < 16 {
+    if answer.len() == 3
+        && calling::right_lengths(nodes, entries, words)
+        && let Some(who) = Who::new(who)
+    {
         return by_phase(nodes, entries, words, answer, who);
     }
     fully(nodes, entries, words, answer, who)
