@@ -6,8 +6,7 @@
 -- P11 speaks of counters: the 510th insert comes to Prepare with 511 nodes used (head, tail and 509 keys), the 511th
 -- with 512. That 510 inserts lead a register to those counters is demand 2's. P12 is the listing's.
 -- Not here: the proof (proofs/Worked.antt). Assumes nothing.
-use Rattle.std.specs.Prelude.{Err}
-use Rattle.std.specs.Prelude.{Ok}
+use Rattle.std.specs.Prelude.{Ok, Err}
 use Rattle.std.specs.Prelude.{ℕ, ◌≤◌, ◌<◌, ◌≡◌, List, [], ◌∷◌, ◌++◌, length, replicate}
 use Rattle.nodes.specs.Nodes.{key_at, next_at, removed_at, unlocked}
 use Rattle.terms.specs.Terms.{small, Name, name_of, values_of, started, working, waiting, key, inserted, end, refused}

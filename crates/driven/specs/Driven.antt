@@ -16,7 +16,6 @@ use Rattle.sixteen.specs.Sixteen.{fresh_register}
 use Rattle.fairness.specs.Calls.{after}
 use Rattle.reached.specs.Reached.{State, record_of, go, answer, Past, no_past, Reached}
 use Rattle.loading.specs.Loading.{done, load_of}
-use Rattle.loading.specs.declared.Unloaded.{Unloaded}
 use Rattle.loaded.specs.Calls.{answers, inserts, keys_in, values_in}
 use Rattle.onward.specs.Onward.{has_room}
 use Rattle.several.specs.Several.{Handed, handed, hand_out}

@@ -1,5 +1,6 @@
 -- No contract of this crate leaves a choice: two outcomes that it allows for one input are equal.
--- In order: reading a line; a refusal's number; printing. Private functions are not listed. Assumes nothing.
+-- In order: reading a line; a refusal's number (crate terms has its function); printing. Private functions are not
+-- listed. Assumes nothing.
 use Prim.Native.Nat.{ℕ}
 use mathlib.Core.Path.{◌≡◌}
 use mathlib.Core.List.{List}

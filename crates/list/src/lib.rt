@@ -3,7 +3,7 @@
 // nothing.
 #![tactic(auto)]
 
-ghost use Rattle.std.specs.Prelude.{◌≡◌, ◌<◌};
+ghost use Rattle.std.specs.Prelude.{◌≡◌};
 ghost use Rattle.steps.specs.Steps.{done, act_step};
 
 use steps::{Laid, Phase, Query, Stepped, Task, Who};

@@ -13,7 +13,6 @@ use Rattle.sixteen.specs.declared.Call.{Call}
 use Rattle.sixteen.specs.Sixteen.{fresh_register}
 use Rattle.reached.specs.Reached.{State, go, Past, no_past, note, InWords}
 use Rattle.loading.specs.Loading.{done, load_of}
-use Rattle.loading.specs.declared.Unloaded.{Unloaded}
 use Rattle.loaded.specs.Calls.{inserts, keys_in, values_in}
 
 abbrev pub listed_past : List ℕ → Past

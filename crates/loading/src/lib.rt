@@ -17,7 +17,8 @@ use nodes::{NEWEST, NEXT};
 use scanning::Unread;
 use terms::{Counters, Refusal};
 
-// Why no register was loaded: a listing that is not allowed with its offset.
+// Why no register was loaded: a table of another length; a listing that is not allowed, with the offset of its first
+// bad line; or a key too many.
 #[derive(Clone, Copy)]
 pub enum Unloaded {
     BadTable,

@@ -11,9 +11,7 @@ use Rattle.sixteen.specs.declared.Call.{Call}
 use Rattle.sixteen.specs.Sixteen.{fresh_register}
 use Rattle.listing.specs.Listing.{key_room, write_of}
 use Rattle.listing.specs.Listing.{done as written}
-use Rattle.listing.specs.declared.Unwritten.{Unwritten}
 use Rattle.loading.specs.Loading.{done, load_of}
-use Rattle.loading.specs.declared.Unloaded.{Unloaded}
 use Rattle.reached.specs.Reached.{State, who_of, answer, Past, Reached}
 use Rattle.reached.specs.Answers.{set_at, set_now}
 use Rattle.mission.specs.Mission.{whole}

@@ -3,7 +3,7 @@
 // answers. Words 0 to 2 are nodes used, entries used and the stamp; session s has words 3 + 9 s to 11 + 9 s (crate
 // encoding says which). An answer is three words: its name and its two values. Everything is total: what lies past a
 // slice's end reads as 0.
-// Not here: the lengths that a call asks for (crate ffi). Assumes nothing.
+// Not here: the lengths that a call asks for (crate calling). Assumes nothing.
 #![tactic(auto)]
 
 ghost use Rattle.std.specs.Prelude.{◌≡◌};

@@ -1,8 +1,8 @@
-// The register's public calls: fresh, start and step over two lent tables, and one call over sixteen records for
-// programs.
-// In order: what the calls return; the tables' lengths; fresh; start; step; the call over sixteen records. No call
-// has a `requires`: bad tables, sessions, keys, ranges and contents are refused by number (document 01).
-// Not here: the step through a reference to the record (crate inplace), listings (crate listing). Assumes nothing.
+// The register's public calls: fresh, start and step over two lent tables.
+// In order: what the calls return; the tables' lengths; fresh; start; step. No call has a `requires`: bad tables,
+// sessions, keys, ranges and contents are refused by number (document 01).
+// Not here: the step through a reference to the record (crate inplace), the call over sixteen records (crate sixteen),
+// listings (crate listing). Assumes nothing.
 #![tactic(auto)]
 
 ghost use Rattle.std.specs.Prelude.{◌≡◌};

@@ -3,7 +3,7 @@
 // In order: numbers; why a run writes nothing; a call and its session's record; a turn; the room a run needs; one
 // line; the lines; the run.
 // The sixteen records stay where they are in `serve_lines`: each call is lent one.
-// Not here: lines and answers (crate lines), reading and writing files (crates runner and cases). Assumes nothing.
+// Not here: lines and answers (crate lines), reading and writing files (crate serving). Assumes nothing.
 #![tactic(auto)]
 
 ghost use Rattle.std.specs.Prelude.{◌≡◌, ◌+◌, ◌*◌, ◌≤◌, length};

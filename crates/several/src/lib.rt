@@ -1,7 +1,7 @@
 // Several steps of one session in one call, so that a caller decodes and encodes the session's record once for all.
 // In order: what a call returns; the pairs handed out; whether the call goes on; one step; as far as
 // it gets and one step; the steps.
-// Not here: the step (crate register), the words of records and answers (crate ffi). Assumes nothing.
+// Not here: the step (crate register), the words of records and answers (crate packing). Assumes nothing.
 #![tactic(auto)]
 
 ghost use Rattle.std.specs.Prelude.{◌≡◌, ◌-◌, ◌<◌};

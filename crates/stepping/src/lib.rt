@@ -1,5 +1,5 @@
 // One step of a session on its words, by a short way where one leads.
-// In order: the whole step; what a walk's and a range's short way tells (crate shortly); an update's steps that change
+// In order: the whole step; what a range's short way tells (crate shortly); an update's steps that change
 // the phase alone (crate advancing); Number and Finish (crate closing); by the phase, with the checks. Where no short
 // way leads, the step is one of many (crate calling), on the record decoded.
 // Not here: the step for C, and a walk that moves on (crate ffi), what the short ways test (their crates). Assumes
