@@ -2,10 +2,11 @@
 -- In order: Number (phase 6), which tells the update's number; Finish (phase 8), which tells whether it is one.
 -- `z` is the size, `ns` and `es` are the tables, `o` and `p` the words of the operation and of the phase.
 -- Not here: that this is the step (proofs/Agrees.antt). Assumes nothing.
-use Rattle.std.specs.Prelude.{ℕ, ◌+◌, List, Bool, true, false, cond, ◌&&◌, ltb, eqb, Option, Some, None}
+use Rattle.std.specs.Prelude.{ℕ, ◌+◌, List, Bool, true, false, cond, ltb, eqb, Option, Some, None}
 use Rattle.bundle.specs.Bundle.{finish_of}
 use Rattle.nodes.specs.Nodes.{unlocked_both}
 use Rattle.terms.specs.declared.Size.{Size}
+use Rattle.steps.specs.Steps.{in_tables}
 use Rattle.encoding.specs.declared.OpWords.{OpWords}
 use Rattle.encoding.specs.declared.PhaseWords.{PhaseWords}
 use Rattle.advancing.specs.Advancing.{updates_of, removing}
@@ -19,9 +20,7 @@ number_ahead z stamp o p =
 
 -- ---- Finish: both entries and the nodes that are locked are in the tables
 unfoldable pub usable_ahead : Size → Bool → PhaseWords → Bool
-usable_ahead z removes p =
-    ltb p.c z.entries
-    && (ltb p.d z.entries && (ltb p.a z.nodes && cond removes (ltb p.b z.nodes) true))
+usable_ahead z removes p = in_tables z removes p.a p.b p.c p.d
 
 pub data Finished : Type 0 where
   finished : List ℕ → List ℕ → Bool → Finished

@@ -1,12 +1,11 @@
 -- What it is for a short way of an update's last steps to tell the step.
 -- In order: a step that acts; Number; Finish. Not here: that they do (proofs/Agrees.antt). Assumes nothing.
-use Rattle.std.specs.Prelude.{ℕ, ◌+◌, ◌≡◌, List, Bool, true, cond, Ok}
+use Rattle.std.specs.Prelude.{ℕ, ◌+◌, ◌≡◌, List, true, Ok}
 use Rattle.terms.specs.declared.Size.{Size}
 use Rattle.terms.specs.declared.Counters.{Counters}
-use Rattle.terms.specs.declared.Answer.{Answer}
 use Rattle.steps.specs.declared.Phase.{Phase}
 use Rattle.steps.specs.declared.Stepped.{Stepped}
-use Rattle.steps.specs.Steps.{done, busy_of, works, ends, raised, act_step}
+use Rattle.steps.specs.Steps.{done, busy_of, works, ends, raised, finish_answer, act_step}
 use Rattle.encoding.specs.declared.Words.{Words}
 use Rattle.encoding.specs.Encoding.{phase_from, session_from, decode}
 use Rattle.shortly.specs.Told.{named}
@@ -24,9 +23,6 @@ pub record Acts (z : Size) (ns es : List ℕ) (c : Counters) (who : ℕ) (w : Wo
 abbrev pub numbered : Counters → Words → Stepped
 numbered c w =
     works (raised c) (named w) (Phase.Link w.phase.a w.phase.b w.phase.c w.phase.d (c.stamp + 1))
-
-abbrev pub finish_answer : Bool → ℕ → Answer
-finish_answer removes number = cond removes (Answer.Removed number) (Answer.Inserted number)
 
 abbrev pub over : Counters → Words → Stepped
 over c w = ends c (finish_answer (removing w.op) w.phase.e)

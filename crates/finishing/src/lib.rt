@@ -10,14 +10,14 @@ ghost use Rattle.steps.specs.Steps.{
   insert_link,
   remove_link,
   link_step,
-  finished_of,
-  usable,
+  finish_answer,
+  in_tables,
   finish_step,
 };
 
 use nodes::{NEXT, REMOVED};
 use steps::{Laid, Stepped, Task};
-use terms::{Answer, Counters, Op};
+use terms::{Answer, Counters, Size};
 
 #[tactic(auto, unfolding(steps::specs::Steps::number_step))]
 pub fn number(task: Task, laid: Laid) -> Stepped
@@ -67,28 +67,28 @@ pub fn link(task: Task, nodes: &mut [u32], laid: Laid, number: u32) -> Stepped
     task.work(laid.finishing(number))
 }
 
-fn finished(op: Op, number: u32) -> Answer
-    ensures { result ≡ finished_of op number }
+// What an update that is finished answers.
+pub fn finished(removes: bool, number: u32) -> Answer
+    ensures { result ≡ finish_answer removes number }
 {
-    if terms::removes(op) {
-        return Answer::Removed(number);
+    if removes {
+        Answer::Removed(number)
+    } else {
+        Answer::Inserted(number)
     }
-    Answer::Inserted(number)
 }
 
 // Whether all that Finish uses lies in the tables.
-#[tactic(auto, unfolding(steps::specs::Steps::usable))]
-fn is_usable(task: Task, laid: Laid) -> bool
-    ensures { result ≡ usable task.size task.op laid.pred laid.node laid.lower laid.upper }
+pub fn is_usable(size: Size, removes: bool, laid: Laid) -> bool
+    ensures { result ≡ in_tables size removes laid.pred laid.node laid.lower laid.upper }
 {
-    let size = task.size;
     laid.lower < size.entries
         && laid.upper < size.entries
         && laid.pred < size.nodes
-        && (!terms::removes(task.op) || laid.node < size.nodes)
+        && (!removes || laid.node < size.nodes)
 }
 
-#[tactic(auto, unfolding(steps::specs::Steps::finish_step))]
+#[tactic(auto, unfolding(steps::specs::Steps::finish_step, steps::specs::Steps::usable))]
 pub fn finish(
     task: Task,
     nodes: &mut [u32],
@@ -100,11 +100,12 @@ pub fn finish(
         ≡ finish_step task.size nodes.old entries.old task.counters task.op laid.pred laid.node
         laid.lower laid.upper number }
 {
-    if is_usable(task, laid) {
+    let removes = terms::removes(task.op);
+    if is_usable(task.size, removes, laid) {
         bundle::finish(entries, laid.lower, number);
         bundle::finish(entries, laid.upper, number);
-        nodes::unlock_both(nodes, laid.pred, laid.node, terms::removes(task.op));
-        return task.end(finished(task.op, number));
+        nodes::unlock_both(nodes, laid.pred, laid.node, removes);
+        return task.end(finished(removes, number));
     }
     task.damaged(laid.finishing(number))
 }

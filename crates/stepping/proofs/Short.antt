@@ -14,7 +14,7 @@ use Rattle.terms.specs.declared.Size.{Size}
 use Rattle.terms.specs.declared.Counters.{Counters}
 use Rattle.terms.specs.declared.Answer.{Answer}
 use Rattle.steps.specs.declared.Stepped.{Stepped}
-use Rattle.steps.specs.Steps.{done, gives}
+use Rattle.steps.specs.Steps.{done, gives, finish_answer}
 use Rattle.register.specs.Register.{fits, step_of}
 use Rattle.encoding.specs.declared.OpWords.{OpWords}
 use Rattle.encoding.specs.declared.PhaseWords.{PhaseWords}
@@ -33,7 +33,7 @@ use Rattle.advancing.specs.Advancing.{advanced, removing, advance_of}
 use Rattle.advancing.specs.Told.{AdvanceTold}
 use Rattle.advancing.proofs.Agrees.{advance_is_step, advance_none}
 use Rattle.closing.specs.Closing.{number_ahead, finished, finish_ahead}
-use Rattle.closing.specs.Told.{Acts, finish_answer}
+use Rattle.closing.specs.Told.{Acts}
 use Rattle.closing.proofs.Agrees.{number_is_step, finish_is_step, finish_none}
 use Rattle.calling.specs.Calling.{lengths_fit, kept}
 use Rattle.stepping.specs.Stepping.{IsAdmitted, heard, went, settled, ended, after_step, step_record, step_session}

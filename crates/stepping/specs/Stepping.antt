@@ -8,7 +8,7 @@ use Rattle.std.specs.Prelude.{ℕ, ◌<◌, ◌≡◌, List, Bool, true, cond, l
 use Rattle.terms.specs.declared.Size.{Size}
 use Rattle.terms.specs.declared.Counters.{Counters}
 use Rattle.steps.specs.declared.Session.{Session}
-use Rattle.steps.specs.Steps.{idle, Done, done}
+use Rattle.steps.specs.Steps.{idle, Done, done, finish_answer}
 use Rattle.register.specs.Register.{step_of}
 use Rattle.encoding.specs.declared.Words.{Words}
 use Rattle.encoding.specs.Encoding.{encode, decode}
@@ -16,7 +16,6 @@ use Rattle.packing.specs.declared.Reply.{Reply}
 use Rattle.packing.specs.Packing.{counters_at, put_counters, record_at, put_two, put_record, reply_of, number_of}
 use Rattle.packing.specs.Packing.{put_reply}
 use Rattle.exchange.specs.Exchange.{Left, left, stays}
-use Rattle.closing.specs.Told.{finish_answer}
 use Rattle.calling.specs.Calling.{lengths_fit, on_decoded, kept}
 
 -- what start, step and steps check first, in this order: an answer of another length stays as it is; 7; 1

@@ -161,7 +161,7 @@ fn end_update(words: &mut [u32], answer: &mut [u32], who: u32, removes: bool, nu
         ≡ ended words.old answer.old who removes number }
 {
     let c = packing::counters_at(words);
-    let reply = Reply::from(closing::answer(removes, number));
+    let reply = Reply::from(finishing::finished(removes, number));
     let idle = Words::default();
     settle(words, answer, who, c, idle, reply)
 }

@@ -249,13 +249,19 @@ link_step z ns c op pred node lower upper number =
     (insert_link z ns c op pred node lower upper number)
 
 -- ---- Finish: both entries get the number, unlock, answer
+abbrev pub finish_answer : Bool → ℕ → Answer
+finish_answer removes number = cond removes (Answer.Removed number) (Answer.Inserted number)
+
 abbrev pub finished_of : Op → ℕ → Answer
-finished_of op number = cond (removes_of op) (Answer.Removed number) (Answer.Inserted number)
+finished_of op number = finish_answer (removes_of op) number
+
+-- both entries and the nodes that are locked are in the tables
+abbrev pub in_tables : Size → Bool → ℕ → ℕ → ℕ → ℕ → Bool
+in_tables z removes pred node lower upper =
+    ltb lower z.entries && (ltb upper z.entries && (ltb pred z.nodes && cond removes (ltb node z.nodes) true))
 
 unfoldable pub usable : Size → Op → ℕ → ℕ → ℕ → ℕ → Bool
-usable z op pred node lower upper =
-    ltb lower z.entries
-    && (ltb upper z.entries && (ltb pred z.nodes && cond (removes_of op) (ltb node z.nodes) true))
+usable z op pred node lower upper = in_tables z (removes_of op) pred node lower upper
 
 unfoldable pub finish_step : Size → List ℕ → List ℕ → Counters → Op → ℕ → ℕ → ℕ → ℕ → ℕ → Done
 finish_step z ns es c op pred node lower upper number =
