@@ -7,17 +7,18 @@ use mathlib.Core.List.{List}
 use mathlib.Core.Bool.{Bool, true, false, cond, ◌&&◌}
 use native.Mathlib.Omega.{arith}
 use lib.Dec.{ltb}
-use Rattle.nodes.specs.Nodes.{key_at, value_at, next_at}
+use Rattle.nodes.specs.Nodes.{key_at, value_at}
 use Rattle.terms.specs.Terms.{names_of, sought_of, high_of}
 use Rattle.terms.specs.declared.Size.{Size}
 use Rattle.terms.specs.declared.Op.{Op}
 use Rattle.steps.specs.declared.Session.{Session}
+use Rattle.steps.specs.Steps.{moves_on}
 use Rattle.register.specs.Register.{fits}
 use Rattle.std.specs.Prelude.{Option, Some, None}
 use Rattle.steps.specs.declared.Phase.{Phase}
 use Rattle.onward.specs.declared.Walked.{Walked}
 use Rattle.onward.specs.declared.Far.{Far}
-use Rattle.onward.specs.Onward.{below_at, walked_to, walk_on, put_pair, Handed, handed_to, handed_at}
+use Rattle.onward.specs.Onward.{walked_to, walk_on, put_pair, Handed, handed_to, handed_at}
 use Rattle.onward.specs.Onward.{next_key, on_found, hand_on, Reach, reached, stays, hand_far, on_course, far_of}
 
 -- `made` steps, from `from` on and of at most `most`, and no more pairs than steps
@@ -36,17 +37,18 @@ module _ (z : Size) (ns : List ℕ) (sought count : ℕ) where
   unfolding walk_on
   walk_within zero pred curr made h = record { no_fewer = omega arith; few_steps = omega arith; few_pairs = h }
   walk_within (suc m) pred curr made h =
-      by (below_at z ns curr sought) (walk_within m curr (next_at ns curr) (made + 1) (omega (arith, h)))
+      by (moves_on z ns sought curr) (λ next. walk_within m curr next (made + 1) (omega (arith, h)))
     where
-      by : (b : Bool) → WalkWithin (made + 1) (made + 1 + m) (walk_on m z ns sought curr (next_at ns curr) (made + 1))
+      by : (f : Option ℕ)
+          → ((next : ℕ) → WalkWithin (made + 1) (made + 1 + m) (walk_on m z ns sought curr next (made + 1)))
           → WalkWithin made (made + suc m)
-          (cond b (walk_on m z ns sought curr (next_at ns curr) (made + 1)) (walked_to pred curr made))
-      by true W = record {
-        no_fewer = omega (arith, W.no_fewer);
-        few_steps = omega (arith, W.few_steps);
-        few_pairs = W.few_pairs;
+          (on_found f (λ next. walk_on m z ns sought curr next (made + 1)) (walked_to pred curr made))
+      by (Some next) W = record {
+        no_fewer = omega (arith, (W next).no_fewer);
+        few_steps = omega (arith, (W next).few_steps);
+        few_pairs = (W next).few_pairs;
       }
-      by false W = record { no_fewer = omega arith; few_steps = omega arith; few_pairs = h }
+      by None W = record { no_fewer = omega arith; few_steps = omega arith; few_pairs = h }
 
 -- ---- handing out
 abbrev HandWithin : ℕ → ℕ → Handed → Type 0

@@ -3,16 +3,16 @@
 use Prim.Native.Nat.{ℕ, zero, suc, ◌+◌, ◌-◌, ◌≤◌, ◌<◌}
 use mathlib.Core.Path.{◌≡◌, refl}
 use mathlib.Core.List.{List}
-use mathlib.Core.Bool.{Bool, true, false}
 use native.Mathlib.Decide.{dec_lt}
 use native.Mathlib.Omega.{arith}
 use borrow.Author.Tests.{le-ltb}
-use Rattle.nodes.specs.Nodes.{key_at, value_at, next_at}
+use Rattle.nodes.specs.Nodes.{key_at, value_at}
 use Rattle.terms.specs.Terms.{small}
 use Rattle.terms.specs.declared.Size.{Size}
 use Rattle.std.specs.Prelude.{Option, Some, None}
+use Rattle.steps.specs.Steps.{moves_on}
 use Rattle.onward.specs.declared.Walked.{Walked}
-use Rattle.onward.specs.Onward.{below_at, walked_to, walk_on, put_pair}
+use Rattle.onward.specs.Onward.{walked_to, walk_on, put_pair}
 use Rattle.onward.specs.Onward.{Handed, handed_to, handed_at, next_key, hand_on}
 
 -- ---- walking on
@@ -25,17 +25,17 @@ module _ (all : Walked) (z : Size) (ns : List ℕ) (sought pred curr made most :
   unfolding walk_on
   walk_most h = let e : most - made ≡ 0 = omega (arith, h) in rw (rest.same, e)
 
-  module _ (b : Bool) (more : made < most) (test : b ≡ below_at z ns curr sought) where
+  module _ (r : Option ℕ) (more : made < most) (next : r ≡ moves_on z ns sought curr) where
     abbrev one_more : most - made ≡ suc (most - (made + 1))
     one_more = omega (arith, more)
 
-    pub walk_stops : b ≡ false → walked_to pred curr made ≡ all
+    pub walk_stops : r ≡ None → walked_to pred curr made ≡ all
     unfolding walk_on
-    walk_stops h = rw (rest.same, one_more, ← test, h)
+    walk_stops h = rw (rest.same, one_more, ← next, h)
 
-    pub walk_goes : (n : ℕ) → b ≡ true → n ≡ next_at ns curr → Walking all z ns sought curr n (made + 1) most
+    pub walk_goes : (n : ℕ) → r ≡ Some n → Walking all z ns sought curr n (made + 1) most
     unfolding walk_on
-    walk_goes n h e = record { same = rw (rest.same, one_more, ← test, h, e) }
+    walk_goes n h = record { same = rw (rest.same, one_more, ← next, h) }
 
 pub ruleset walks = (walk_most, walk_stops, walk_goes)
 

@@ -8,12 +8,13 @@ use Rattle.std.specs.Prelude.{Option, Some, None, Result, Ok, Err}
 use Rattle.table.specs.Table.{store_of}
 use Rattle.bundle.specs.Bundle.{at_of}
 use Rattle.bundle.specs.declared.Held.{Held}
-use Rattle.nodes.specs.Nodes.{key_at, value_at, next_at, newest_at}
+use Rattle.nodes.specs.Nodes.{key_at, value_at, newest_at}
 use Rattle.terms.specs.Terms.{sought_of, high_of, names_of}
 use Rattle.terms.specs.declared.Op.{Op}
 use Rattle.terms.specs.declared.Size.{Size}
 use Rattle.steps.specs.declared.Phase.{Phase}
 use Rattle.steps.specs.declared.Session.{Session}
+use Rattle.steps.specs.Steps.{moves_on}
 use Rattle.register.specs.Register.{fits}
 use Rattle.onward.specs.declared.Walked.{Walked}
 use Rattle.onward.specs.declared.Handing.{Handing}
@@ -23,14 +24,15 @@ use Rattle.onward.specs.declared.Far.{Far}
 abbrev pub walked_to : ℕ → ℕ → ℕ → Walked
 walked_to pred curr made = record { pred = pred; curr = curr; made = made }
 
-unfoldable pub below_at : Size → List ℕ → ℕ → ℕ → Bool
-below_at z ns curr sought = ltb curr z.nodes && ltb (key_at ns curr) sought
+-- what comes where a node is found, and where none is
+abbrev pub on_found : {A : Type 0} → Option ℕ → (ℕ → A) → A → A
+on_found (Some to) next stay = next to
+on_found None next stay = stay
 
 unfoldable pub walk_on : ℕ → Size → List ℕ → ℕ → ℕ → ℕ → ℕ → Walked
 walk_on zero z ns sought pred curr made = walked_to pred curr made
 walk_on (suc more) z ns sought pred curr made =
-    cond (below_at z ns curr sought)
-    (walk_on more z ns sought curr (next_at ns curr) (made + 1))
+    on_found (moves_on z ns sought curr) (λ next. walk_on more z ns sought curr next (made + 1))
     (walked_to pred curr made)
 
 -- ---- the node in range that Follow leads to, if it does
@@ -64,10 +66,6 @@ handed_at at handed count made = record { at = at; handed = handed; count = coun
 unfoldable pub next_key : Size → List ℕ → List ℕ → List ℕ → ℕ → ℕ → ℕ → ℕ → ℕ → ℕ → Option ℕ
 next_key z ns es ps low high snapshot at handed count =
     cond (ltb handed z.keys && has_room ps (count + 1)) (followed_to z ns es low high at snapshot) None
-
-abbrev pub on_found : Option ℕ → (ℕ → Handed) → Handed → Handed
-on_found (Some to) next stay = next to
-on_found None next stay = stay
 
 unfoldable pub hand_on : ℕ → Size → List ℕ → List ℕ → ℕ → ℕ → ℕ → List ℕ → ℕ → ℕ → ℕ → ℕ → Handed
 hand_on zero z ns es low high snapshot ps at handed count made = handed_to ps (handed_at at handed count made)

@@ -8,7 +8,6 @@
 ghost use Rattle.std.specs.Prelude.{◌≡◌, ◌-◌, ◌≤◌, ◌<◌};
 ghost use Rattle.terms.specs.Terms.{small, sought_of, high_of};
 ghost use Rattle.onward.specs.Onward.{
-  below_at,
   walk_on,
   in_range,
   followed_to,
@@ -24,7 +23,7 @@ ghost use Rattle.onward.specs.Onward.{
   far_of,
 };
 
-use nodes::{KEY, NEWEST, NEXT, VALUE};
+use nodes::{KEY, NEWEST, VALUE};
 use steps::{Phase, Session};
 use terms::Op;
 
@@ -44,13 +43,6 @@ pub struct Walked {
     pub made: u32,
 }
 
-#[tactic(auto, unfolding(crate::specs::Onward::below_at))]
-fn below(nodes: &[u32], curr: u32, sought: u32) -> bool
-    ensures { result ≡ below_at small nodes.now curr sought }
-{
-    curr < terms::small_size().nodes && nodes::node(nodes, curr, KEY) < sought
-}
-
 #[tactic(auto, using(crate::proofs::Ways::walks))]
 fn walk_on(nodes: &[u32], sought: u32, from: u32, to: u32, p: Progress) -> Walked
     ensures { result ≡ walk_on (p.most - p.made) small nodes.now sought from to p.made }
@@ -58,11 +50,11 @@ fn walk_on(nodes: &[u32], sought: u32, from: u32, to: u32, p: Progress) -> Walke
     let mut pred = from;
     let mut curr = to;
     for made in p.made..p.most {
-        if !below(nodes, curr, sought) {
+        let Some(next) = reading::moves_on(terms::small_size(), nodes, sought, curr) else {
             return Walked { pred, curr, made };
-        }
+        };
         pred = curr;
-        curr = nodes::node(nodes, pred, NEXT);
+        curr = next;
     }
     Walked {
         pred,

@@ -3,22 +3,41 @@
 #![tactic(auto)]
 
 ghost use Rattle.std.specs.Prelude.{◌≡◌};
-ghost use Rattle.steps.specs.Steps.{walk_step, has_sees, newest_step, fix_step, range_sees, follow_step, hand_step};
+ghost use Rattle.steps.specs.Steps.{
+  moves_on,
+  walk_step,
+  has_sees,
+  newest_step,
+  fix_step,
+  range_sees,
+  follow_step,
+  hand_step,
+};
 
 use bundle::Held;
 use nodes::{KEY, NEWEST, NEXT, VALUE};
 use steps::{Phase, Query, Stepped, Task};
-use terms::Answer;
+use terms::{Answer, Size};
 
-#[tactic(auto, unfolding(steps::specs::Steps::walk_step))]
+// The node that Walk moves on to, where `curr` is a node with a key below the key sought.
+#[tactic(auto, unfolding(steps::specs::Steps::moves_on))]
+pub fn moves_on(size: Size, nodes: &[u32], sought: u32, curr: u32) -> Option<u32>
+    ensures { result ≡ moves_on size nodes.now sought curr }
+{
+    if curr < size.nodes && nodes::node(nodes, curr, KEY) < sought {
+        return Some(nodes::node(nodes, curr, NEXT));
+    }
+    None
+}
+
+#[tactic(auto, unfolding(steps::specs::Steps::walk_step, steps::specs::Steps::moves_on))]
 pub fn walk(task: Task, nodes: &[u32], pred: u32, curr: u32) -> Stepped
     ensures { result ≡ walk_step task.size nodes.now task.counters task.op pred curr }
 {
     if task.size.nodes <= curr {
         return task.damaged(Phase::Walk { pred, curr });
     }
-    if nodes::node(nodes, curr, KEY) < terms::sought(task.op) {
-        let next = nodes::node(nodes, curr, NEXT);
+    if let Some(next) = moves_on(task.size, nodes, terms::sought(task.op), curr) {
         return task.work(Phase::Walk {
             pred: curr,
             curr: next,

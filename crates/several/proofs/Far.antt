@@ -22,11 +22,11 @@ use Rattle.terms.specs.declared.Op.{Op}
 use Rattle.terms.specs.declared.Answer.{Answer}
 use Rattle.steps.specs.declared.Phase.{Phase}
 use Rattle.steps.specs.declared.Session.{Session}
-use Rattle.steps.specs.Steps.{done, works, gives, walk_step, range_sees, follow_step, hand_step}
+use Rattle.steps.specs.Steps.{done, works, gives, walk_step, moves_on, range_sees, follow_step, hand_step}
 use Rattle.register.specs.Register.{fits, step_of}
 use Rattle.std.specs.Prelude.{Option, Some, None, Result, Ok, Err}
 use Rattle.onward.specs.declared.Walked.{Walked}
-use Rattle.onward.specs.Onward.{below_at, walked_to, walk_on, in_range, on_taken, followed_to, has_room}
+use Rattle.onward.specs.Onward.{walked_to, walk_on, in_range, on_taken, followed_to, has_room}
 use Rattle.onward.specs.Onward.{put_pair}
 use Rattle.onward.specs.Onward.{Handed, handed_to, handed_at, next_key, on_found, hand_on, Reach, reached, stays}
 use Rattle.onward.specs.Onward.{hand_far, on_course, far_of}
@@ -106,12 +106,15 @@ module _ (z : Size) (who : ℕ) (ns es : List ℕ) (c : Counters) (op : Op) (len
   abbrev session : Phase → Session
   session φ = record { op = op; phase = φ }
 
-  step_walk : (pred curr : ℕ) → true ≡ below_at z ns curr (sought_of op)
-      → step_of z ns es c who (session (Phase.Walk pred curr))
-      ≡ done ns es (works c op (Phase.Walk curr (next_at ns curr)))
-  unfolding step_of walk_step below_at
-  step_walk pred curr h = let d = both (ltb curr z.nodes) (ltb (key_at ns curr) (sought_of op)) h in
-      rw (lengths, known, named, d.0, d.1)
+  step_walk : (pred curr next : ℕ) → Some next ≡ moves_on z ns (sought_of op) curr
+      → step_of z ns es c who (session (Phase.Walk pred curr)) ≡ done ns es (works c op (Phase.Walk curr next))
+  unfolding step_of walk_step moves_on
+  step_walk pred curr next h =
+      let below = ltb (key_at ns curr) (sought_of op) in
+      let d = at_cond (ltb curr z.nodes) (cond below (Some (next_at ns curr)) None) next h in
+      let k = at_cond below (Some (next_at ns curr)) next d.1 in
+      let same : next_at ns curr ≡ next = cc in
+      rw (lengths, known, named, ← d.0, ← k.0, same)
 
   module _ (ps : List ℕ) (snapshot at handed count to : ℕ)
       (R : Ready z ns es ps (sought_of op) (high_of op) snapshot at handed count to) where
@@ -140,11 +143,11 @@ module _ (z : Size) (who : ℕ) (ns es : List ℕ) (c : Counters) (op : Op) (len
     abbrev after_walk : Walked → Gone
     after_walk w = go_on (most - w.made) z who w.made ns es ps n c (session (Phase.Walk w.pred w.curr))
 
-    walk_one : (m made pred curr : ℕ) → true ≡ below_at z ns curr (sought_of op)
+    walk_one : (m made pred curr next : ℕ) → Some next ≡ moves_on z ns (sought_of op) curr
         → go_on (suc m) z who made ns es ps n c (session (Phase.Walk pred curr))
-        ≡ go_on m z who (made + 1) ns es ps n c (session (Phase.Walk curr (next_at ns curr)))
+        ≡ go_on m z who (made + 1) ns es ps n c (session (Phase.Walk curr next))
     unfolding go_on turn_of
-    walk_one m made pred curr h = rw (step_walk pred curr h)
+    walk_one m made pred curr next h = rw (step_walk pred curr next h)
 
     walk_same : (m made pred curr : ℕ) → m ≡ most - made
         → go_on m z who made ns es ps n c (session (Phase.Walk pred curr))
@@ -152,17 +155,17 @@ module _ (z : Size) (who : ℕ) (ns es : List ℕ) (c : Counters) (op : Op) (len
     unfolding walk_on
     walk_same zero made pred curr e = rw e
     walk_same (suc m) made pred curr e =
-        by (below_at z ns curr (sought_of op)) refl
-        (walk_same m (made + 1) curr (next_at ns curr) (omega (arith, e)))
+        by (moves_on z ns (sought_of op) curr) refl
+        (λ next. walk_same m (made + 1) curr next (omega (arith, e)))
       where
-        by : (b : Bool) → b ≡ below_at z ns curr (sought_of op)
-            → go_on m z who (made + 1) ns es ps n c (session (Phase.Walk curr (next_at ns curr)))
-            ≡ after_walk (walk_on m z ns (sought_of op) curr (next_at ns curr) (made + 1))
+        by : (f : Option ℕ) → f ≡ moves_on z ns (sought_of op) curr
+            → ((next : ℕ) → go_on m z who (made + 1) ns es ps n c (session (Phase.Walk curr next))
+            ≡ after_walk (walk_on m z ns (sought_of op) curr next (made + 1)))
             → go_on (suc m) z who made ns es ps n c (session (Phase.Walk pred curr))
-            ≡ after_walk (cond b (walk_on m z ns (sought_of op) curr (next_at ns curr) (made + 1))
+            ≡ after_walk (on_found f (λ next. walk_on m z ns (sought_of op) curr next (made + 1))
             (walked_to pred curr made))
-        by true h rest = walk_one m made pred curr h ∙ rest
-        by false h rest = rw e
+        by (Some next) h rest = walk_one m made pred curr next h ∙ rest next
+        by None h rest = rw e
 
   -- ---- handing out
   module _ (snapshot most : ℕ) where

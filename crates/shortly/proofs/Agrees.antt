@@ -18,7 +18,7 @@ use Rattle.terms.specs.declared.Counters.{Counters}
 use Rattle.terms.specs.declared.Op.{Op}
 use Rattle.terms.specs.declared.Answer.{Answer}
 use Rattle.steps.specs.declared.Phase.{Phase}
-use Rattle.steps.specs.Steps.{done, under_way, gives, works, range_sees, act_step}
+use Rattle.steps.specs.Steps.{done, under_way, gives, works, moves_on, range_sees, act_step}
 use Rattle.reading.proofs.Ways.{walk_on, range_on, range_in, follow_leads, hands}
 use Rattle.encoding.specs.declared.PhaseWords.{PhaseWords}
 use Rattle.encoding.specs.declared.Words.{Words}
@@ -28,7 +28,7 @@ use Rattle.encoding.proofs.Ways.{front_all, front_last, back_walks, back_last}
 use Rattle.encoding.proofs.Trip.{three_same, right_decodes}
 use Rattle.packing.specs.Packing.{reply_with, reply_of, number_of}
 use Rattle.shortly.specs.declared.Ranged.{Ranged}
-use Rattle.shortly.specs.Shortly.{moves_on, seeks_of, walk_zeros, walk_shortly, sees_shortly, on_taken}
+use Rattle.shortly.specs.Shortly.{seeks_of, walk_zeros, walk_shortly, sees_shortly, on_taken}
 use Rattle.shortly.specs.Shortly.{follow_shortly, hand_shortly, range_zeros, range_shortly}
 use Rattle.shortly.specs.Told.{named, Agrees, moved_to, led_to, handed_out, WalkTold, RangeTold}
 

@@ -5,8 +5,9 @@
 use Rattle.std.specs.Prelude.{ℕ, ◌+◌, List, Bool, false, cond, ltb, leb, eqb, Option, Some, None, Result, Ok, Err}
 use Rattle.bundle.specs.Bundle.{at_of}
 use Rattle.bundle.specs.declared.Held.{Held}
-use Rattle.nodes.specs.Nodes.{key_at, value_at, next_at, newest_at}
+use Rattle.nodes.specs.Nodes.{key_at, value_at, newest_at}
 use Rattle.terms.specs.declared.Size.{Size}
+use Rattle.steps.specs.Steps.{moves_on}
 use Rattle.encoding.specs.declared.OpWords.{OpWords}
 use Rattle.encoding.specs.declared.PhaseWords.{PhaseWords}
 use Rattle.encoding.specs.declared.Words.{Words}
@@ -14,12 +15,6 @@ use Rattle.encoding.specs.Encoding.{same_three, op_right}
 use Rattle.shortly.specs.declared.Ranged.{Ranged}
 
 -- ---- Walk that moves on, for the key sought
-unfoldable pub moves_on : Size → List ℕ → ℕ → ℕ → Option ℕ
-moves_on z ns sought curr =
-    cond (ltb curr z.nodes)
-    (cond (ltb (key_at ns curr) sought) (Some (next_at ns curr)) None)
-    None
-
 -- an operation's words, and not None's: the first number is the key sought
 unfoldable pub seeks_of : OpWords → Bool
 seeks_of o = cond (eqb o.kind 0) false (op_right o)

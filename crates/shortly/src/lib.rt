@@ -10,7 +10,6 @@
 ghost use Rattle.std.specs.Prelude.{◌≡◌};
 ghost use Rattle.terms.specs.Terms.{small};
 ghost use Rattle.shortly.specs.Shortly.{
-  moves_on,
   seeks_of,
   walk_shortly,
   sees_shortly,
@@ -20,7 +19,7 @@ ghost use Rattle.shortly.specs.Shortly.{
 };
 
 use encoding::{OpWords, PhaseWords, Words, kind, phase};
-use nodes::{KEY, NEWEST, NEXT, VALUE};
+use nodes::{KEY, NEWEST, VALUE};
 
 // A range is led on: the next phase's number, and its node. Or it hands out: how many keys it then has handed out, and
 // the key with its value.
@@ -28,17 +27,6 @@ use nodes::{KEY, NEWEST, NEXT, VALUE};
 pub enum Ranged {
     Leads(u32, u32),
     Hands(u32, u32, u32),
-}
-
-// A walk moves on: curr is pred now, and the node that this tells is curr.
-#[tactic(auto, unfolding(crate::specs::Shortly::moves_on))]
-fn moves_on(nodes: &[u32], sought: u32, curr: u32) -> Option<u32>
-    ensures { result ≡ moves_on small nodes.now sought curr }
-{
-    if curr < 512 && nodes::node(nodes, curr, KEY) < sought {
-        return Some(nodes::node(nodes, curr, NEXT));
-    }
-    None
 }
 
 // Are these the words of an operation? Its first number is the key sought. Whether the second is 0 comes first: this
@@ -53,13 +41,13 @@ pub fn seeks(o: OpWords) -> bool
     }
 }
 
-// Of an operation that seeks this key.
+// Of an operation that seeks this key: curr is pred now, and the node that this tells is curr.
 #[tactic(auto, unfolding(crate::specs::Shortly::walk_shortly))]
 pub fn walk(nodes: &[u32], sought: u32, p: PhaseWords) -> Option<u32>
     ensures { result ≡ walk_shortly small nodes.now sought p }
 {
     if p.phase == phase::WALK && encoding::all_zero(p.c, p.d, p.e) {
-        return moves_on(nodes, sought, p.b);
+        return reading::moves_on(terms::small_size(), nodes, sought, p.b);
     }
     None
 }

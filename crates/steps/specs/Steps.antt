@@ -4,7 +4,7 @@
 -- Follow; Hand; the step by its phase. `z` is the size, `ns` and `es` are the node and the entries table, `c` the
 -- counters. A node or an entry number is tested where a step first uses it, before any write (document 01, Damaged).
 -- Not here: the checks before a step, starting, a fresh register (crate register). Assumes nothing.
-use Rattle.std.specs.Prelude.{Result, Ok, Err}
+use Rattle.std.specs.Prelude.{Option, Some, None, Result, Ok, Err}
 use Rattle.std.specs.Prelude.{ℕ, ◌+◌, List, Bool, true, false, cond, ◌&&◌, ◌||◌, ltb, leb, eqb}
 use Rattle.bundle.specs.Bundle.{at_of, newest_of, held_of, lay_of, finish_of}
 use Rattle.bundle.specs.declared.Held.{Held}
@@ -88,6 +88,13 @@ walk_step z ns c op pred curr =
     (works c op (Phase.Walk curr (next_at ns curr)))
     (works c op (arrived_of op pred curr)))
     (damaged c op (Phase.Walk pred curr))
+
+-- the node that Walk moves on to
+unfoldable pub moves_on : Size → List ℕ → ℕ → ℕ → Option ℕ
+moves_on z ns sought curr =
+    cond (ltb curr z.nodes)
+    (cond (ltb (key_at ns curr) sought) (Some (next_at ns curr)) None)
+    None
 
 -- ---- Lock: wait while another holds the node; one's own word counts as free
 abbrev pub locked_of : Op → ℕ → ℕ → Phase
