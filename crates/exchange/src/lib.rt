@@ -12,7 +12,7 @@ ghost use Rattle.exchange.specs.Exchange.{left, loaded_reply, loaded_words, read
 
 use listing::Unwritten;
 use loading::Unloaded;
-use packing::Reply;
+use packing::{Reply, name};
 use terms::{Counters, Refusal};
 
 // Puts a reply, and returns what the call returns.
@@ -29,7 +29,7 @@ fn written_reply(w: Result<usize, Unwritten>) -> Reply
 {
     match w {
         Ok(n) => Reply {
-            name: 10,
+            name: name::WRITTEN,
             first: (n % 4294967296) as u32,
             ..Reply::default()
         },
@@ -62,7 +62,7 @@ fn loaded_reply(l: Result<Counters, Unloaded>) -> Reply
 {
     match l {
         Ok(c) => Reply {
-            name: 11,
+            name: name::READ,
             first: c.stamp,
             ..Reply::default()
         },

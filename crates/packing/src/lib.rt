@@ -1,8 +1,8 @@
 // The counters, the sixteen records and an answer in lent slices of words.
-// In order: four places in a record; what is answered; counters; one session's record; a fresh register's words;
-// answers. Words 0 to 2 are nodes used, entries used and the stamp; session s has words 3 + 9 s to 11 + 9 s (crate
-// encoding says which). An answer is three words: its name and its two values. Everything is total: what lies past a
-// slice's end reads as 0.
+// In order: four places in a record; the numbers of answers; what is answered; counters; one session's record; a fresh
+// register's words; answers. Words 0 to 2 are nodes used, entries used and the stamp; session s has words 3 + 9 s to
+// 11 + 9 s (crate encoding says which). An answer is three words: its name and its two values. Everything is total:
+// what lies past a slice's end reads as 0.
 // Not here: the lengths that a call asks for (crate calling). Assumes nothing.
 #![tactic(auto)]
 
@@ -37,6 +37,31 @@ pub const A: u32 = 7;
 pub const B: u32 = 8;
 
 pub const C: u32 = 9;
+
+// The number of each answer; a refusal is 0.
+pub mod name {
+    pub const STARTED: u32 = 1;
+
+    pub const WORKING: u32 = 2;
+
+    pub const WAITING: u32 = 3;
+
+    pub const KEY: u32 = 4;
+
+    pub const INSERTED: u32 = 5;
+
+    pub const REMOVED: u32 = 6;
+
+    pub const PRESENT: u32 = 7;
+
+    pub const ABSENT: u32 = 8;
+
+    pub const END: u32 = 9;
+
+    pub const WRITTEN: u32 = 10;
+
+    pub const READ: u32 = 11;
+}
 
 // An answer's name and values, as numbers: a refusal's name is 0, a value that an answer doesn't have is 0.
 #[derive(Clone, Copy, Default)]
@@ -171,42 +196,42 @@ impl From<Answer> for Reply {
     fn from(a: Answer) -> Self {
         match a {
             Answer::Started => Reply {
-                name: 1,
+                name: name::STARTED,
                 ..Reply::default()
             },
             Answer::Working => Reply {
-                name: 2,
+                name: name::WORKING,
                 ..Reply::default()
             },
             Answer::Waiting => Reply {
-                name: 3,
+                name: name::WAITING,
                 ..Reply::default()
             },
             Answer::Key(first, second) => Reply {
-                name: 4,
+                name: name::KEY,
                 first,
                 second,
             },
             Answer::Inserted(first) => Reply {
-                name: 5,
+                name: name::INSERTED,
                 first,
                 ..Reply::default()
             },
             Answer::Removed(first) => Reply {
-                name: 6,
+                name: name::REMOVED,
                 first,
                 ..Reply::default()
             },
             Answer::Present => Reply {
-                name: 7,
+                name: name::PRESENT,
                 ..Reply::default()
             },
             Answer::Absent => Reply {
-                name: 8,
+                name: name::ABSENT,
                 ..Reply::default()
             },
             Answer::End(first, second) => Reply {
-                name: 9,
+                name: name::END,
                 first,
                 second,
             },
