@@ -24,7 +24,7 @@ ghost use Rattle.onward.specs.Onward.{
 };
 
 use nodes::{KEY, NEWEST, VALUE};
-use steps::{Phase, Session};
+use steps::{Phase, Query, Session};
 use terms::Op;
 
 // What a call has done and may do: `count` of the lent pairs are filled and `made` steps are made, of at most `most`.
@@ -212,26 +212,25 @@ fn hand_far(
     entries: &[u32],
     pairs: &mut [u32],
     op: Op,
-    at: u32,
-    snapshot: u32,
-    handed: u32,
+    query: Query,
     p: Progress,
 ) -> Far
-    ensures { reached pairs.new result ≡ hand_far op snapshot
+    ensures { reached pairs.new result ≡ hand_far op query.snapshot
         (hand_on (p.most - p.made) small nodes.now entries.now (sought_of op) (high_of op)
-        snapshot pairs.old at handed p.count p.made) }
+        query.snapshot pairs.old query.at query.handed p.count p.made) }
 {
     let range = Range {
         low: terms::sought(op),
         high: terms::high(op),
-        snapshot,
+        snapshot: query.snapshot,
     };
-    let h = range.hand_on(nodes, entries, pairs, at, handed, p);
-    let phase = Phase::Follow {
+    let h = range.hand_on(nodes, entries, pairs, query.at, query.handed, p);
+    let phase = Query {
         at: h.at,
-        snapshot,
         handed: h.handed,
-    };
+        ..query
+    }
+    .following();
     Far {
         session: Session { op, phase },
         count: h.count,
@@ -250,7 +249,14 @@ fn along(nodes: &[u32], entries: &[u32], pairs: &mut [u32], s: Session, p: Progr
             at,
             snapshot,
             handed,
-        } => hand_far(nodes, entries, pairs, s.op, at, snapshot, handed, p),
+        } => {
+            let query = Query {
+                at,
+                snapshot,
+                handed,
+            };
+            hand_far(nodes, entries, pairs, s.op, query, p)
+        }
         _ => stay(s, p),
     }
 }
