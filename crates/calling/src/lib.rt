@@ -27,11 +27,11 @@ use packing::Reply;
 use steps::Session;
 use terms::{Answer, Counters, Refusal};
 
-#[tactic(auto, unfolding(crate::specs::Calling::lengths_fit, register::specs::Register::fits))]
+#[tactic(auto, unfolding(crate::specs::Calling::lengths_fit))]
 pub fn right_lengths(nodes: &[u32], entries: &[u32], words: &[u32]) -> bool
     ensures { result ≡ lengths_fit small nodes.now entries.now words.now }
 {
-    nodes.len() == 3072 && entries.len() == 8192 && words.len() == 147
+    register::right_lengths(terms::small_size(), nodes, entries) && words.len() == 147
 }
 
 #[tactic(auto, unfolding(packing::specs::Packing::number_of))]

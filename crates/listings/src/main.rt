@@ -1,8 +1,10 @@
 // Cases of listings: reads each file that an argument names, writes it back and loads it.
-// In order: reading and writing back; loading; tables of other lengths; files.
+// In order: reading and writing back; loading; files.
 // Not here: what is expected (stdout), the files (data/). Each line says what a call answered, by document 01's
 // numbers; the tables lent are all 7, and `words` counts every word of them afterwards.
 #![tactic(auto)]
+
+ghost use Rattle.std.specs.Prelude.{◌≤◌};
 
 use scanning::Whole;
 use serving::files;
@@ -61,25 +63,16 @@ fn loads(rt: &impl Print, input: &[u8], nodes: &mut [u32], entries: &mut [u32]) 
     println!(rt; "words={},{}", sum(nodes), sum(entries))
 }
 
-// Into tables whose every word is 7.
-fn load_into_sevens(rt: &impl Print, input: &[u8]) -> io::Result<()> {
-    let mut nodes = [7u32; 3072];
-    let mut entries = [7u32; 8192];
+// Into tables whose every word is 7, of so many words.
+fn load_into_sevens<const NODES: usize, const ENTRIES: usize>(
+    rt: &impl Print,
+    input: &[u8],
+) -> io::Result<()>
+    requires { (NODES ≤ 65536) × (ENTRIES ≤ 65536) }
+{
+    let mut nodes = [7u32; NODES];
+    let mut entries = [7u32; ENTRIES];
     loads(rt, input, &mut nodes, &mut entries)
-}
-
-// ---- tables of other lengths, with a listing that is refused too
-
-fn short_nodes(rt: &impl Print) -> io::Result<()> {
-    let mut nodes = [7u32; 3071];
-    let mut entries = [7u32; 8192];
-    loads(rt, b"", &mut nodes, &mut entries)
-}
-
-fn long_entries(rt: &impl Print) -> io::Result<()> {
-    let mut nodes = [7u32; 3072];
-    let mut entries = [7u32; 8193];
-    loads(rt, b"", &mut nodes, &mut entries)
 }
 
 // ---- files
@@ -89,12 +82,12 @@ fn answer(rt: &impl Print, mut file: File) -> io::Result<()> {
     let mut input = [0u8; 65536];
     let n = serving::read_full(&mut file, &mut input)?;
     reads(rt, &input[..n])?;
-    load_into_sevens(rt, &input[..n])
+    load_into_sevens::<3072, 8192>(rt, &input[..n])
 }
 
 fn main(rt: HostRuntime) -> io::Result<()> {
     println!(rt; "== a node table too short, an entry table too long")?;
-    short_nodes(&rt)?;
-    long_entries(&rt)?;
+    load_into_sevens::<3071, 8192>(&rt, b"")?;
+    load_into_sevens::<3072, 8193>(&rt, b"")?;
     files::each(&rt, |file| answer(&rt, file))
 }
