@@ -8,7 +8,7 @@
 // (crate register), storing the words and the answer (crate stepping). Assumes nothing.
 #![tactic(auto)]
 
-ghost use Rattle.std.specs.Prelude.{◌≡◌};
+ghost use Rattle.std.specs.Prelude.{◌≡◌, ◌<◌};
 ghost use Rattle.terms.specs.Terms.{small};
 ghost use Rattle.advancing.specs.Advancing.{
   updates_of,
@@ -145,9 +145,11 @@ fn early(
 }
 
 #[tactic(auto, unfolding(crate::specs::Advancing::advance_of))]
-pub fn advance(nodes: &mut [u32], who: Who, o: OpWords, p: PhaseWords) -> Option<u32>
-    ensures { advanced nodes.new result ≡ advance_of small nodes.old who.number o p }
+pub fn advance(nodes: &mut [u32], who: u32, o: OpWords, p: PhaseWords) -> Option<u32>
+    requires { who < 16 }
+    ensures { advanced nodes.new result ≡ advance_of small nodes.old who o p }
 {
+    let who = Who { number: who };
     if !updates(o) {
         return None;
     }

@@ -35,10 +35,10 @@ pub fn right_lengths(nodes: &[u32], entries: &[u32], words: &[u32]) -> bool
 }
 
 #[tactic(auto, unfolding(packing::specs::Packing::number_of))]
-pub fn refuse(answer: &mut [u32], why: Refusal) -> u32
-    ensures { told answer.new result ≡ refusal answer.old (refusal_number why) }
+pub fn refuse(answer: &mut [u32], number: u32) -> u32
+    ensures { told answer.new result ≡ refusal answer.old number }
 {
-    exchange::give(answer, Reply::from(why))
+    exchange::give(answer, packing::refused(number))
 }
 
 // Puts an answer, and returns what the call returns.
@@ -69,7 +69,7 @@ fn stand_still(answer: &mut [u32], why: Refusal) -> u32
     ensures { told answer.new result
         ≡ told (tally (put_reply answer.old (refused_by (refusal_number why))) 0 0) (refusal_number why) }
 {
-    let n = refuse(answer, why);
+    let n = refuse(answer, u32::from(why));
     count_up(answer, n, 0, 0)
 }
 

@@ -1,6 +1,6 @@
 -- What every refusal through the library has in common.
--- In order: a number that is returned is the register's refusal's; such an answer hands out no key; what the register
--- keeps; what the calls check before they read a record. Assumes nothing.
+-- In order: a number that is returned is the register's refusal's; such an answer hands out no key and ends the call;
+-- what the register keeps; what the calls check before they read a record. Assumes nothing.
 use Prim.Native.Nat.{ℕ}
 use mathlib.Core.Path.{◌≡◌, refl, ◌∙◌}
 use mathlib.Core.Logic.{◌≢◌}
@@ -15,7 +15,7 @@ use Rattle.demands.specs.Demands.{Kept}
 use Rattle.std.specs.Prelude.{Ok}
 use Rattle.encoding.specs.Encoding.{decode}
 use Rattle.packing.specs.Packing.{counters_at, record_at, reply_of, number_of}
-use Rattle.several.specs.Several.{handed, hand_out}
+use Rattle.several.specs.Several.{handed, hand_out, goes_on}
 use Rattle.calling.specs.Calling.{kept}
 use Rattle.ffi.proofs.Kept.{words_kept}
 use Rattle.driven.specs.Always.{Unchanged}
@@ -34,12 +34,19 @@ refuses_number Answer.Absent n some e = absurd (some e)
 refuses_number (Answer.End t m) n some e = absurd (some e)
 refuses_number (Answer.Refused why) n some e = record { name = refl; values = rw e }
 
--- ---- and such an answer hands out no key
+-- ---- and such an answer hands out no key, and ends the call
 pub refused_hands : (a : Answer) (n : ℕ) → n ≢ 0 → n ≡ number_of (reply_of a)
     → (ps : List ℕ) (m : ℕ) → hand_out ps m a ≡ handed ps m
 unfolding number_of
 refused_hands (Answer.Key k v) n some e ps m = absurd (some e)
 refused_hands a n some e ps m = refl
+
+pub refused_ends : (a : Answer) (n : ℕ) → n ≢ 0 → n ≡ number_of (reply_of a)
+    → (ps : List ℕ) (m : ℕ) → goes_on ps m a ≡ false
+unfolding number_of
+refused_ends Answer.Working n some e ps m = absurd (some e)
+refused_ends (Answer.Key k v) n some e ps m = absurd (some e)
+refused_ends a n some e ps m = refl
 
 -- ---- what the register keeps, the slices keep: the words put back are those that were there
 pub kept_unchanged : (ws : List ℕ) (who : ℕ) (s : Session) → decode (record_at ws who) ≡ Ok s

@@ -1,7 +1,7 @@
 -- The round trip: a record's words decode to that record, decoded words encode back to themselves, and malformed words
 -- are no record's.
 -- In order: words that test as the same are the same; right words are those of what they stand for; the record that a
--- record's words stand for; the three laws; what decoding tests. Assumes nothing.
+-- record's words stand for; the three laws. Assumes nothing.
 use Prim.Native.Nat.{ℕ}
 use mathlib.Core.Path.{◌≡◌, refl, sym, ap, ◌∙◌}
 use mathlib.Core.Bool.{Bool, true, false, cond, ◌&&◌}
@@ -128,37 +128,3 @@ pub malformed_is_no_record : (w : Words) (s : Session) → decode w ≡ malforme
 malformed_is_no_record w s e h =
     let r : decode w ≡ Ok s = ap decode (sym h) ∙ decode_encode s in
     let z : ◌≡◌ {A = ℕ} 0 1 = cc in omega arith
-
--- ---- decoding: words are right where they are those of the record that they would stand for
-abbrev same_words : Words → Words → Bool
-same_words w v =
-    (eqb w.op.kind v.op.kind && (eqb w.op.first v.op.first && eqb w.op.second v.op.second))
-    && (eqb w.phase.phase v.phase.phase && (eqb w.phase.a v.phase.a && (eqb w.phase.b v.phase.b
-    && (eqb w.phase.c v.phase.c && (eqb w.phase.d v.phase.d && eqb w.phase.e v.phase.e)))))
-
-regroup : (a b c d e f : Bool) → ((a && (b && c)) && (d && (e && f))) ≡ (a && (b && (c && (d && (e && f)))))
-regroup true true c d e f = refl
-regroup true false c d e f = refl
-regroup false b c d e f = refl
-
-same_right : (w : Words) → same_words w (encode (session_from w))
-    ≡ (op_right w.op && (front_right w.phase && back_right w.phase))
-unfolding op_right front_right back_right same_three
-same_right w =
-    let v = encode (session_from w) in
-    ap (λ q. same_three w.op.kind w.op.first w.op.second v.op.kind v.op.first v.op.second && q)
-    (sym (regroup (eqb w.phase.phase v.phase.phase) (eqb w.phase.a v.phase.a) (eqb w.phase.b v.phase.b)
-    (eqb w.phase.c v.phase.c) (eqb w.phase.d v.phase.d) (eqb w.phase.e v.phase.e)))
-
-module _ (w : Words) (s : Session) (v : Words) (t : Bool) (from : s ≡ session_from w) (words : v ≡ encode s)
-    (test : t ≡ same_words w v) where
-  all_right : t ≡ (op_right w.op && (front_right w.phase && back_right w.phase))
-  all_right = test ∙ ap (same_words w) (words ∙ ap encode from) ∙ same_right w
-
-  pub decodes : t ≡ true → Ok s ≡ decode w
-  unfolding decode
-  decodes h = rw (← all_right, h, from)
-
-  pub decodes_not : t ≡ false → malformed ≡ decode w
-  unfolding decode
-  decodes_not h = rw (← all_right, h)

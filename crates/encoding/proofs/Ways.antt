@@ -1,4 +1,4 @@
--- What words stand for, and when they are right, over plain values: the laws that the short ways' crates cite.
+-- What words stand for, and when they are right, over plain values: laws of decoding, cited by the short ways too.
 -- In order: an operation from its words; a phase from its words; are the words right, of an operation and of a phase.
 -- Assumes nothing.
 use Prim.Native.Nat.{ℕ, ◌+◌, ◌≤◌, ◌<◌}
@@ -98,6 +98,10 @@ either p n h i f g = elim (dec_le p n) [
 ]
 
 module _ (w : OpWords) where
+  pub right_none : (b : Bool) → w.kind ≡ 0 → b ≡ same_three w.kind w.first w.second 0 0 0 → b ≡ op_right w
+  unfolding op_right op_from
+  right_none b h e = rw (e, h)
+
   pub right_insert : w.kind ≡ 1 → true ≡ op_right w
   unfolding op_right op_from
   right_insert h = rw (h, three_self)
@@ -122,6 +126,8 @@ module _ (w : OpWords) where
         ne_eqb w.kind 4 i,
         ne_eqb w.kind 0 (omega arith),
       )
+
+pub ruleset right_ops = (right_none, right_insert, right_range, right_key, right_not)
 
 -- ---- the words of the phase that words would stand for
 abbrev pub stands_for : PhaseWords → PhaseWords
@@ -153,6 +159,10 @@ module _ (w : PhaseWords) where
   unfolding phase_from
   as_updating h i = either w.phase 7 (omega arith) (omega arith) (λ e. rw e) (λ e. rw e)
 
+  as_newest : 8 < w.phase → w.phase ≤ 10 → stands_for w ≡ phase_with w.phase w.a 0 0 0 0
+  unfolding phase_from
+  as_newest h i = either w.phase 9 (omega arith) (omega arith) (λ e. rw e) (λ e. rw e)
+
   as_following : 10 < w.phase → w.phase ≤ 12
       → stands_for w ≡ phase_with w.phase w.a w.b w.c 0 0
   unfolding phase_from
@@ -165,6 +175,10 @@ module _ (w : PhaseWords) where
 
 -- ---- are the words of a phase right
 module _ (w : PhaseWords) where
+  pub front_idle : (b : Bool) → w.phase ≡ 0 → b ≡ same_three w.phase w.a w.b 0 0 0 → b ≡ front_right w
+  unfolding front_right
+  front_idle b h e = rw (as_idle w h, e)
+
   pub front_all : (w.phase ≡ 0 → ⊥) → w.phase ≤ 8 → true ≡ front_right w
   unfolding front_right
   front_all h i = elim (dec_le w.phase 5) [
@@ -174,6 +188,10 @@ module _ (w : PhaseWords) where
       | no updates ↦ rw (as_updating w (omega arith) i, three_self)
     ]
   ]
+
+  pub front_newest : 8 < w.phase → w.phase ≤ 10 → eqb w.b 0 ≡ front_right w
+  unfolding front_right same_three
+  front_newest h i = rw (as_newest w h i, eq-eqb w.phase _ refl, eq-eqb w.a _ refl)
 
   pub front_last : 10 < w.phase → leb w.phase 12 ≡ front_right w
   unfolding front_right same_three
@@ -190,6 +208,10 @@ module _ (w : PhaseWords) where
       | no walks ↦ rw (as_walking w (omega arith) h, e)
     ]
 
+    pub back_newest : 8 < w.phase → w.phase ≤ 10 → b ≡ same_three w.c w.d w.e 0 0 0 → b ≡ back_right w
+    unfolding back_right
+    back_newest h i e = rw (as_newest w h i, e)
+
     pub back_last : 10 < w.phase → b ≡ same_three 0 w.d w.e 0 0 0 → b ≡ back_right w
     unfolding back_right same_three
     back_last h e = elim (dec_le w.phase 12) [
@@ -204,3 +226,7 @@ module _ (w : PhaseWords) where
   pub back_all : 5 < w.phase → (w.phase ≡ 6 → ⊥) → w.phase ≤ 8 → true ≡ back_right w
   unfolding back_right
   back_all h i j = rw (as_updating w (omega arith) j, three_self)
+
+pub ruleset right_fronts = (front_idle, front_all, front_newest, front_last)
+
+pub ruleset right_backs = (back_walks, back_number, back_all, back_newest, back_last)

@@ -1,6 +1,6 @@
 // A session's record as nine words, for callers in other languages, and back.
 // In order: the numbers of kinds and phases; the words; an operation's; a phase's; a record's; what words would stand
-// for; are words 0; decoding.
+// for; are words 0; are they right; decoding.
 // The words of a record are decoded and encoded back unchanged; words that no record encodes to are malformed
 // (proofs/Trip.antt). Not here: where the words lie in a lent slice (crate packing). Assumes nothing.
 #![tactic(auto)]
@@ -14,6 +14,9 @@ ghost use Rattle.encoding.specs.Encoding.{
   phase_from,
   session_from,
   same_three,
+  op_right,
+  front_right,
+  back_right,
   decode,
 };
 
@@ -334,6 +337,60 @@ pub fn all_zero(x: u32, y: u32, z: u32) -> bool
     x == 0 && y == 0 && z == 0
 }
 
+// A kind, and 0 in the words that it does not use.
+#[tactic(auto, using(crate::proofs::Ways::right_ops))]
+pub fn op_right(w: OpWords) -> bool
+    ensures { result ≡ op_right w }
+{
+    if w.kind == 0 {
+        return all_zero(w.kind, w.first, w.second);
+    }
+    if w.kind == kind::INSERT || w.kind == kind::RANGE {
+        return true;
+    }
+    if w.kind <= kind::HAS {
+        return w.second == 0;
+    }
+    false
+}
+
+// A phase, and 0 in those of its first two numbers that it does not use.
+#[tactic(auto, using(crate::proofs::Ways::right_fronts))]
+fn front_right(w: PhaseWords) -> bool
+    ensures { result ≡ front_right w }
+{
+    if w.phase == 0 {
+        return all_zero(w.phase, w.a, w.b);
+    }
+    if w.phase <= phase::FINISH {
+        return true;
+    }
+    if w.phase <= phase::FIX {
+        return w.b == 0;
+    }
+    w.phase <= phase::HAND
+}
+
+// 0 in those of the last three numbers that the phase does not use.
+#[tactic(auto, using(crate::proofs::Ways::right_backs))]
+fn back_right(w: PhaseWords) -> bool
+    ensures { result ≡ back_right w }
+{
+    if w.phase <= phase::PREPARE {
+        return all_zero(w.c, w.d, w.e);
+    }
+    if w.phase == phase::NUMBER {
+        return w.e == 0;
+    }
+    if w.phase <= phase::FINISH {
+        return true;
+    }
+    if w.phase <= phase::FIX {
+        return all_zero(w.c, w.d, w.e);
+    }
+    all_zero(0, w.d, w.e)
+}
+
 // The record that encodes to these words. What no record encodes to is malformed: a kind above 4, a phase above 12,
 // an unused word that is not 0.
 impl TryFrom<Words> for Session {
@@ -341,10 +398,10 @@ impl TryFrom<Words> for Session {
 
     ghost try_from_gives = { λ w r. r ≡ decode w };
 
+    #[tactic(auto, unfolding(crate::specs::Encoding::decode))]
     fn try_from(w: Words) -> Result<Self, Malformed> {
-        let s = session_from(w);
-        if w == Words::from(s) {
-            Ok(s)
+        if op_right(w.op) && front_right(w.phase) && back_right(w.phase) {
+            Ok(session_from(w))
         } else {
             Err(Malformed)
         }

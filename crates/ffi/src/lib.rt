@@ -83,7 +83,7 @@ fn start_session(
 {
     match Session::try_from(packing::record_at(words, who)) {
         Ok(s) => start_record(nodes, entries, words, answer, who, s, op),
-        Err(Malformed) => calling::refuse(answer, Refusal::Damaged),
+        Err(Malformed) => calling::refuse(answer, u32::from(Refusal::Damaged)),
     }
 }
 
@@ -108,10 +108,10 @@ pub extern "C" fn ravencrumb_start(
         return u32::from(Refusal::BadTable);
     }
     if !calling::right_lengths(nodes, entries, words) {
-        return calling::refuse(answer, Refusal::BadTable);
+        return calling::refuse(answer, u32::from(Refusal::BadTable));
     }
     if 16 <= who {
-        return calling::refuse(answer, Refusal::BadSession);
+        return calling::refuse(answer, u32::from(Refusal::BadSession));
     }
     let op = encoding::op_from(kind, first, second);
     start_session(nodes, entries, words, answer, who, op)
@@ -219,11 +219,11 @@ fn step_checked(
         who }
 {
     if entries.len() != 8192 {
-        return calling::refuse(answer, Refusal::BadTable);
+        return calling::refuse(answer, u32::from(Refusal::BadTable));
     }
     if who < 16 {
         if words.len() != 147 {
-            return calling::refuse(answer, Refusal::BadTable);
+            return calling::refuse(answer, u32::from(Refusal::BadTable));
         }
         return step_shortly(nodes, entries, words, answer, who);
     }
@@ -237,7 +237,7 @@ fn refuse_nodes(answer: &mut [u32]) -> u32
     if answer.len() != 3 {
         return u32::from(Refusal::BadTable);
     }
-    calling::refuse(answer, Refusal::BadTable)
+    calling::refuse(answer, u32::from(Refusal::BadTable))
 }
 
 // By a short way where one leads: nearly all steps are a walk's or a range's. Of the checks no two in a row go on

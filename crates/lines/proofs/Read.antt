@@ -8,15 +8,16 @@ use mathlib.Core.Bool.{Bool, true, false, not, cond}
 use native.Mathlib.Omega.{arith}
 use lib.ListN.{length, take, drop, length-drop}
 use lib.Dec.{ltb, eqb}
-use lib.Seq.{take_all}
+use lib.Seq.{take_all, length-take-le}
 use borrow.Author.Tests.{lt-ltb, le-ltb, ltb-true, ltb-false}
-use Rattle.std.specs.Prelude.{Option, Some, None, MatchOption}
+use Rattle.std.specs.Prelude.{Option, Some, None}
 use Rattle.std.specs.List.{position_or_len}
+use Rattle.text.proofs.Basics.{impossible}
 use Rattle.text.specs.Text.{number_in, field_in}
 use Rattle.terms.specs.declared.Op.{Op}
 use Rattle.sixteen.specs.declared.Call.{Call}
 use Rattle.lines.specs.Lines.{insert_name, remove_name, has_name, range_name, step_name}
-use Rattle.lines.specs.Lines.{comma_in, two_in, keyed, paired, start_in, line_in}
+use Rattle.lines.specs.Lines.{comma_in, comma_at, two_in, keyed, paired, start_in, line_in}
 
 -- ---- commas
 
@@ -32,14 +33,38 @@ comma_is (b ∷ s) = by (eqb b 44) (position_or_len (λ x. eqb x 44) s) (comma_i
 -- what the search for a comma answers
 pub comma_found : (s : List ℕ) (r : Option ℕ) →
     r ≡ cond (ltb (position_or_len (λ b. eqb b 44) s) (length s)) (Some (position_or_len (λ b. eqb b 44) s)) None →
-    MatchOption r (length s ≤ comma_in s) (λ c. (c ≡ comma_in s) × (c < length s))
-comma_found s r e =
-    rw e (by (position_or_len (λ b. eqb b 44) s) (comma_is s) (ltb (position_or_len (λ b. eqb b 44) s) _) refl)
-  where
-    by : (k : ℕ) → comma_in s ≡ k → (t : Bool) → ltb k (length s) ≡ t →
-        MatchOption (cond t (Some k) None) (length s ≤ comma_in s) (λ c. (c ≡ comma_in s) × (c < length s))
-    by k is true h = (sym is, ltb-true _ _ h)
-    by k is false h = omega (arith, is, ltb-false _ _ h)
+    r ≡ comma_at s
+unfolding comma_at
+comma_found s r e = rw (e, comma_is s)
+
+-- what a caller learns of it
+module _ (s : List ℕ) (r : Option ℕ) (e : r ≡ comma_at s) where
+  pub comma_none : r ≡ None → length s ≤ comma_in s
+  unfolding comma_at
+  comma_none h = by (ltb (comma_in s) (length s)) refl (sym e ∙ h)
+    where
+      by : (t : Bool) → ltb (comma_in s) (length s) ≡ t → cond t (Some (comma_in s)) None ≡ None →
+          length s ≤ comma_in s
+      by true t k = impossible (cc)
+      by false t k = ltb-false _ _ t
+
+  pub comma_some : (c : ℕ) → r ≡ Some c → (c ≡ comma_in s) × (c < length s)
+  unfolding comma_at
+  comma_some c h = by (ltb (comma_in s) (length s)) refl (sym e ∙ h)
+    where
+      by : (t : Bool) → ltb (comma_in s) (length s) ≡ t → cond t (Some (comma_in s)) None ≡ Some c →
+          (c ≡ comma_in s) × (c < length s)
+      by true t k = let is : comma_in s ≡ c = cc in (sym is, omega (arith, is, ltb-true _ _ t))
+      by false t k = impossible (cc)
+
+  pub comma_is_at : (c : ℕ) → r ≡ Some c → c ≡ comma_in s
+  comma_is_at c h = (comma_some c h).0
+
+  pub comma_within : (c : ℕ) → r ≡ Some c → c < length s
+  comma_within c h = (comma_some c h).1
+
+  pub comma_taken : (c : ℕ) → r ≡ Some c → c ≡ length (take c s)
+  comma_taken c h = sym (length-take-le c s (omega (arith, comma_within c h)))
 
 -- ---- two numbers
 
@@ -72,7 +97,8 @@ module _ (s : List ℕ) (c : ℕ) (at_comma : c ≡ comma_in s) (within : c < le
     unfolding two_in
     two_not_second e = rw (← at_comma, lt-ltb c (length s) within, ← first, is, after, e)
 
-pub ruleset twos = (two_none, two_not_first, two_are, two_not_second)
+pub ruleset twos =
+    (two_none, two_not_first, two_are, two_not_second, comma_none, comma_is_at, comma_within, comma_taken)
 
 -- ---- a head and its numbers
 
@@ -138,4 +164,4 @@ module _ (l : List ℕ) (n : Option ℕ) (none : length l ≤ comma_in l) (f : n
   unfolding line_in
   line_bad e = rw (le-ltb (comma_in l) (length l) none, ← f, e)
 
-pub ruleset lines = (line_start, line_step, line_bad)
+pub ruleset lines = (line_start, line_step, line_bad, comma_none, comma_is_at, comma_within, comma_taken)

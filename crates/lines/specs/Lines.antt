@@ -49,6 +49,10 @@ unfoldable pub comma_in : List ℕ → ℕ
 comma_in [] = 0
 comma_in (b ∷ s) = cond (eqb b 44) 0 (suc (comma_in s))
 
+-- where the first comma stands, if there is one
+unfoldable pub comma_at : List ℕ → Option ℕ
+comma_at s = cond (ltb (comma_in s) (length s)) (Some (comma_in s)) None
+
 abbrev pub both : Option ℕ → Option ℕ → Option (ℕ × ℕ)
 both (Some a) (Some b) = Some (a, b)
 both (Some a) None = None

@@ -5,9 +5,9 @@
 // Not here: what a call does, and the run over all lines (crate running). Assumes nothing.
 #![tactic(auto)]
 
-ghost use Rattle.std.specs.Prelude.{◌≡◌, ◌+◌, ◌<◌, ◌≤◌, length, MatchOption};
+ghost use Rattle.std.specs.Prelude.{◌≡◌, ◌+◌, ◌≤◌, length};
 ghost use Rattle.text.specs.Text.{Puts};
-ghost use Rattle.lines.specs.Lines.{comma_in, two_in, keyed, paired, start_in, line_in};
+ghost use Rattle.lines.specs.Lines.{comma_at, two_in, keyed, paired, start_in, line_in};
 ghost use Rattle.lines.specs.Lines.{one_of, more, words_of, answer_line, refused_line};
 
 use sixteen::Call;
@@ -15,7 +15,7 @@ use terms::{Answer, Op};
 
 // Where the first comma stands, if there is one.
 fn comma(s: &[u8]) -> Option<usize>
-    ensures { MatchOption result (length s.now ≤ comma_in s.now) (λ c. (c ≡ comma_in s.now) × (c < length s.now)) }
+    ensures { result ≡ comma_at s.now }
 {
     s.iter().position(|b| *b == b',')
 }

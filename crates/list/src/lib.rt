@@ -3,15 +3,16 @@
 // nothing.
 #![tactic(auto)]
 
-ghost use Rattle.std.specs.Prelude.{◌≡◌};
+ghost use Rattle.std.specs.Prelude.{◌≡◌, ◌<◌};
 ghost use Rattle.steps.specs.Steps.{done, act_step};
 
-use steps::{Laid, Phase, Query, Stepped, Task, Who};
+use steps::{Laid, Phase, Query, Stepped, Task};
 use terms::Refusal;
 
-pub fn act(task: Task, nodes: &mut [u32], entries: &mut [u32], who: Who, phase: Phase) -> Stepped
+pub fn act(task: Task, nodes: &mut [u32], entries: &mut [u32], who: u32, phase: Phase) -> Stepped
+    requires { who < 16 }
     ensures { done nodes.new entries.new result
-        ≡ act_step task.size nodes.old entries.old task.counters who.number task.op phase }
+        ≡ act_step task.size nodes.old entries.old task.counters who task.op phase }
 {
     match phase {
         Phase::Idle => task.refuse(phase, Refusal::Idle),

@@ -32,10 +32,12 @@ fn is_free(who: Who, word: u32) -> bool
 }
 
 #[tactic(auto, unfolding(steps::specs::Steps::lock_step))]
-pub fn lock(task: Task, nodes: &mut [u32], who: Who, node: u32, here: Phase, then: Phase) -> Stepped
+pub fn lock(task: Task, nodes: &mut [u32], who: u32, node: u32, here: Phase, then: Phase) -> Stepped
+    requires { who < 16 }
     ensures { moved nodes.new result
-        ≡ lock_step task.size nodes.old task.counters who.number task.op node here then }
+        ≡ lock_step task.size nodes.old task.counters who task.op node here then }
 {
+    let who = Who { number: who };
     if task.size.nodes <= node {
         return task.damaged(here);
     }

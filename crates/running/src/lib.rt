@@ -120,7 +120,7 @@ fn serve_lines(
     let mut counters = c;
     let mut sessions = [steps::idle_session(); 16];
     let mut at = 0;
-    for line in input.split_inclusive(|b| *b == b'\n') {
+    for line in input.split_inclusive(|b| text::ends_line(*b)) {
         match read(line) {
             None => {
                 at = lines::print_refusal(out, at, BAD_LINE);

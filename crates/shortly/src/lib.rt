@@ -31,6 +31,7 @@ pub enum Ranged {
 
 // Are these the words of an operation? Its first number is the key sought. Whether the second is 0 comes first: this
 // compiles to fewer jumps than the kind's number first.
+#[tactic(auto, using(crate::proofs::Ways::kinds))]
 pub fn seeks(o: OpWords) -> bool
     ensures { result ≡ seeks_of o }
 {

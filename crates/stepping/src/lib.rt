@@ -98,7 +98,7 @@ fn updating(
 {
     let o = packing::op_at(words, who.number);
     let p = packing::phase_at(words, who.number);
-    match advancing::advance(nodes, who, o, p) {
+    match advancing::advance(nodes, who.number, o, p) {
         Some(phase) => {
             let reply = Reply::from(Answer::Working);
             go(words, answer, who.number, PHASE, phase, A, p.a, reply)
@@ -210,6 +210,7 @@ fn by_phase(
 // Every step but a walk's that moves on: it compiles to a function of its own, so that such a walk saves no registers
 // for the others. It makes the checks again because compiled code does not know of its caller's, and each use of a
 // table would make them.
+#[tactic(auto, unfolding(steps::specs::Steps::session_of))]
 pub fn otherwise(
     nodes: &mut [u32],
     entries: &mut [u32],

@@ -5,9 +5,11 @@
 // step. Assumes nothing.
 #![tactic(auto)]
 
-ghost use Rattle.std.specs.Prelude.{◌≡◌, ◌<◌, ◌≤◌, ◌↔◌, IfSome, IsNone};
+ghost use Rattle.std.specs.Prelude.{◌≡◌, ◌<◌};
+ghost use Rattle.std.specs.Option.{option_map};
 ghost use Rattle.steps.specs.Steps.{
   idle,
+  session_of,
   gives,
   works,
   waits,
@@ -176,9 +178,9 @@ pub struct Who {
 }
 
 impl Who {
+    #[tactic(auto, unfolding(crate::specs::Steps::session_of))]
     pub fn new(number: u32) -> Option<Who>
-        ensures same { IfSome result (λ who. who.number ≡ number) }
-        ensures none { IsNone result ↔ (16 ≤ number) }
+        ensures { option_map (λ who. who.number) result ≡ session_of number }
     {
         if number < 16 {
             return Some(Who { number });

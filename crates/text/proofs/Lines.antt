@@ -38,6 +38,9 @@ ends_at b = by (leb 48 b) (leb b 57) (eqb b 10) refl refl
     by false u true e f = refl
     by false u false e f = refl
 
+pub test_at : (b : ℕ) (t : Bool) → t ≡ ends b → t ≡ eqb b 10
+test_at b t e = e ∙ ends_at b
+
 pub line_length_is : (s : List ℕ) → line_length s ≡ position_or_len (λ b. eqb b 10) s
 unfolding line_length
 line_length_is [] = refl

@@ -7,7 +7,7 @@
 #![tactic(auto)]
 
 ghost use Rattle.std.specs.Prelude.{◌≡◌, ◌+◌, ◌≤◌, length, drop};
-ghost use Rattle.text.specs.Text.{class_of, with_digit, grow, number_in, digits, Puts};
+ghost use Rattle.text.specs.Text.{class_of, ends, with_digit, grow, number_in, digits, Puts};
 ghost use Rattle.text.specs.Text.{seen, lines_of, line_length, field_in};
 
 // What a byte is in a number or a line.
@@ -110,12 +110,20 @@ pub fn put_bytes(out: &mut [u8], place: usize, s: &[u8]) -> usize
     next
 }
 
+// Whether b ends a line.
+#[tactic(auto, unfolding(crate::specs::Text::ends))]
+pub fn ends_line(b: u8) -> bool
+    ensures { result ≡ ends b }
+{
+    matches!(classify(b), Byte::LineEnd)
+}
+
 // Where the first line end at or after `place` stands, or the length.
 pub fn line_end(s: &[u8], place: usize) -> usize
     requires { place ≤ length s.now }
     ensures { result ≡ place + line_length (drop place s.now) }
 {
-    match s[place..].iter().position(|b| *b == b'\n') {
+    match s[place..].iter().position(|b| ends_line(*b)) {
         Some(n) => place + n,
         None => s.len(),
     }
