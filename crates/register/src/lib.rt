@@ -129,7 +129,7 @@ pub fn start(nodes: &[u32], entries: &[u32], who: u32, s: Session, op: Op) -> St
     begin(nodes, s, op)
 }
 
-#[tactic(auto, unfolding(crate::specs::Register::step_of, steps::specs::Steps::session_of))]
+#[tactic(auto, unfolding(crate::specs::Register::step_of, steps::specs::Steps::among_sixteen))]
 pub fn step(nodes: &mut [u32], entries: &mut [u32], c: Counters, who: u32, s: Session) -> Stepped
     ensures { done nodes.new entries.new result
         ≡ step_of small nodes.old entries.old c who s }

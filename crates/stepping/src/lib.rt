@@ -210,7 +210,7 @@ fn by_phase(
 // Every step but a walk's that moves on: it compiles to a function of its own, so that such a walk saves no registers
 // for the others. It makes the checks again because compiled code does not know of its caller's, and each use of a
 // table would make them.
-#[tactic(auto, unfolding(steps::specs::Steps::session_of))]
+#[tactic(auto, unfolding(steps::specs::Steps::among_sixteen))]
 pub fn otherwise(
     nodes: &mut [u32],
     entries: &mut [u32],

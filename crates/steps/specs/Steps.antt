@@ -44,9 +44,9 @@ under_way (Phase.Hand at snapshot handed) = true
 abbrev pub busy_of : Session → Bool
 busy_of s = cond (names_of s.op) (under_way s.phase) false
 
--- ---- the number of one of the sixteen sessions
-unfoldable pub session_of : ℕ → Option ℕ
-session_of number = cond (ltb number 16) (Some number) None
+-- ---- the number of a session, if it is among the sixteen
+unfoldable pub among_sixteen : ℕ → Option ℕ
+among_sixteen number = cond (ltb number 16) (Some number) None
 
 -- ---- what a step leaves: both tables, or the node table alone, and what it returns
 pub data Done : Type 0 where

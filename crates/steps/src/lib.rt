@@ -9,7 +9,7 @@ ghost use Rattle.std.specs.Prelude.{◌≡◌, ◌<◌};
 ghost use Rattle.std.specs.Option.{option_map};
 ghost use Rattle.steps.specs.Steps.{
   idle,
-  session_of,
+  among_sixteen,
   gives,
   works,
   waits,
@@ -178,9 +178,9 @@ pub struct Who {
 }
 
 impl Who {
-    #[tactic(auto, unfolding(crate::specs::Steps::session_of))]
+    #[tactic(auto, unfolding(crate::specs::Steps::among_sixteen))]
     pub fn new(number: u32) -> Option<Who>
-        ensures { option_map (λ who. who.number) result ≡ session_of number }
+        ensures { option_map (λ who. who.number) result ≡ among_sixteen number }
     {
         if number < 16 {
             return Some(Who { number });
