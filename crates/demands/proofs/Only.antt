@@ -3,7 +3,7 @@
 -- In order: a contract by one equation, and by one over what a call leaves; then the public functions: the register's
 -- (fresh, start, step), the step in place, the calls over sixteen records, the bundle's.
 -- Each premise is the contract's own clause with the values at entry and at exit for variables.
--- Not here: functions that are public only between crates of the list; nearly all have one of the shapes at the top.
+-- Not here: functions that are public only between crates of the list; each has one of the shapes at the top.
 -- Assumes nothing.
 use Rattle.terms.specs.declared.Refusal.{Refusal}
 use Rattle.std.specs.Prelude.{Result}
