@@ -1,6 +1,6 @@
 -- Which words are an operation's, over plain values: by the second number first, and then by the kind.
 -- In order: a second number that is 0; one that is not. Assumes nothing.
-use Rattle.std.proofs.Common.{ℕ, ◌≡◌, ◌<◌, ◌≤◌, true, false, arith}
+use Rattle.std.proofs.Common.{◌≡◌, ◌<◌, ◌≤◌, true, false, arith}
 use Rattle.std.proofs.lemmas.Grind.{common_steps}
 use Rattle.encoding.specs.declared.OpWords.{OpWords}
 use Rattle.encoding.specs.Encoding.{op_from, same_three, op_right}
