@@ -4,6 +4,7 @@
 -- (fresh, start, step), the step in place, the calls over sixteen records, the bundle's.
 -- Each premise is the contract's own clause with the values at entry and at exit for variables.
 -- Not here: functions that are public only between crates of the list; each has one of the shapes at the top.
+-- `steps::Who::new` has the first, of the number: the rest of a `Who` is a ghost fact, which no program sees.
 -- Assumes nothing.
 use Rattle.terms.specs.declared.Refusal.{Refusal}
 use Rattle.std.specs.Prelude.{Result}
